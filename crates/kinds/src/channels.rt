@@ -1,0 +1,10 @@
+ghost use Prim.Native.Nat.{_^_, _<_};
+
+pub mod kind;
+
+// A set of the channels 0 to 15: channel c is bit c.
+#[derive(Clone, Copy, PartialEq, Eq, Debug)]
+pub struct Channels {
+    bits: u16,
+    ghost ok: { bits < 2 ^ 16 },
+}
