@@ -2,9 +2,9 @@
 use mathlib.Core.Path.{_≡_, refl, sym, ap, ap₂, _∙_, subst}
 use mathlib.Core.Bool.{Bool, true, false, not, _&&_, _||_}
 use mathlib.Core.Logic.{⊎-elim}
-use Prim.Native.Nat.{ℕ, zero, suc, _/_, _%_, _^_, _<_}
+use Prim.Native.Nat.{ℕ, zero, suc, _/_, _%_, _^_, _<_, _≤_}
 use native.Mathlib.Omega.{arith}
-use native.Mathlib.Nat.{mod-lt, zero-lt-suc, not-suc-le-zero}
+use native.Mathlib.Nat.{mod-lt, zero-lt-suc, not-suc-le-zero, pow-le-pow-right, div-eq-of-lt}
 use borrow.Author.Tests.{eqb-true}
 use lib.Bits.{bitAnd, bitOr, bitXor, and-shr, or-shr, xor-shr}
 use lib.Dec.{eqb}
@@ -55,17 +55,23 @@ one-at (suc n) c e h =
 not-bit : (a c : ℕ) → c < 16 → bit (bitXor a 0xffff) c ≡ bitXor (bit a c) 1
 not-bit a c h = xor-bit a 0xffff c ∙ ap (bitXor (bit a c)) (one-at 16 c refl h)
 
+-- no set holds a channel past 15
+pub none-past : (s : Channels) (c : ℕ) → 16 ≤ c → false ≡ has s c
+none-past s c h =
+    let large : 2 ^ 16 ≤ 2 ^ c = pow-le-pow-right (omega arith) h in
+    let none : s .bits / 2 ^ c ≡ 0 = div-eq-of-lt (omega (arith, s .ok)) in
+    rw none
+
 pub by-channels : By-channels
 by-channels a b c h =
     let both : has (set-ops .meet a b) c ≡ (has a c && has b c) =
-      ap (λ n. eqb (bit n c) 1) (meets a b) ∙ ap (λ n. eqb n 1) (and-bit (a .bits) (b .bits) c)
-      ∙ pairs (λ x y. eqb (bitAnd x y) 1 ≡ (eqb x 1 && eqb y 1)) refl refl refl refl _ _ (digit (a .bits) c) (digit (b .bits) c) in
-    (
+    ap (λ n. eqb (bit n c) 1) (meets a b) ∙ ap (λ n. eqb n 1) (and-bit (a .bits) (b .bits) c)
+    ∙ pairs (λ x y. eqb (bitAnd x y) 1 ≡ (eqb x 1 && eqb y 1)) refl refl refl refl _ _ (digit (a .bits) c) (digit (b .bits) c) in (
       ap (λ n. eqb (bit n c) 1) (joins a b) ∙ ap (λ n. eqb n 1) (or-bit (a .bits) (b .bits) c)
-      ∙ pairs (λ x y. eqb (bitOr x y) 1 ≡ (eqb x 1 || eqb y 1)) refl refl refl refl _ _ (digit (a .bits) c) (digit (b .bits) c),
+          ∙ pairs (λ x y. eqb (bitOr x y) 1 ≡ (eqb x 1 || eqb y 1)) refl refl refl refl _ _ (digit (a .bits) c) (digit (b .bits) c),
       both,
       both,
       ap (λ n. eqb (bit n c) 1) (overs a b)
-      ∙ ap (λ n. eqb n 1) (or-bit (bitXor (a .bits) 0xffff) (b .bits) c ∙ ap (λ n. bitOr n (bit (b .bits) c)) (not-bit (a .bits) c h))
-      ∙ pairs (λ x y. eqb (bitOr (bitXor x 1) y) 1 ≡ (not (eqb x 1) || eqb y 1)) refl refl refl refl _ _ (digit (a .bits) c) (digit (b .bits) c),
+          ∙ ap (λ n. eqb n 1) (or-bit (bitXor (a .bits) 0xffff) (b .bits) c ∙ ap (λ n. bitOr n (bit (b .bits) c)) (not-bit (a .bits) c h))
+          ∙ pairs (λ x y. eqb (bitOr (bitXor x 1) y) 1 ≡ (not (eqb x 1) || eqb y 1)) refl refl refl refl _ _ (digit (a .bits) c) (digit (b .bits) c),
     )

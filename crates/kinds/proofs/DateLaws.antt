@@ -10,8 +10,9 @@ use lib.Dec.{leb, ltb}
 use mathlib.Core.Logic.{⊎-elim}
 use native.Mathlib.Nat.{max-eq-left, max-eq-right, le-of-lt}
 use Rattle.std.proofs.shelf.Tests.{cond-both, cond-false, cases-lt}
+use Rattle.std.specs.declared.option.Option.the-variants.{Some}
 use Rattle.kinds.specs.Kind.{Ops, Laws, AtMost}
-use Rattle.kinds.specs.Dates.{at, later, earlier, after, latest-start, no-later, date-ops}
+use Rattle.kinds.specs.Dates.{at, tick, new-tick, later, earlier, after, latest-start, no-later, date-ops}
 use Rattle.kinds.specs.declared.dates.Tick.{Tick}
 use Rattle.kinds.specs.declared.dates.Date.{Date}
 use Rattle.kinds.specs.declared.dates.Date.the-variants.{Never, At, Open}
@@ -20,6 +21,10 @@ use Rattle.kinds.proofs.Chain.{Ranked, larger-rank, smaller-rank}
 
 pub tick-path : (a b : Tick) → a .value ≡ b .value → a ≡ b
 tick-path a b e = λ i. record { value = e i; ok = isProp→PathP (λ j. e j ≤ 1000000) (λ j. le-prop) (a .ok) (b .ok) i }
+
+-- a tick is the tick of its number
+pub tick-again : (t : Tick) → new-tick (t .value) ≡ Some t
+tick-again t = rw (le-leb (t .value) 1000000 (t .ok)) (ap Some (tick-path (tick (t .value)) t (omega (arith, t .ok))))
 
 -- never is 0, the ticks are 1 to 1,000,001, open is 1,000,002
 abbrev pub rank : Date → ℕ

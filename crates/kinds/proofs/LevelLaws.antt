@@ -1,15 +1,16 @@
 -- The levels keep the laws of a kind.
-use mathlib.Core.Path.{_≡_, refl}
+use mathlib.Core.Path.{_≡_, refl, ap}
 use mathlib.Core.Bool.{Bool, true, false, cond}
 use mathlib.Core.HLevel.{isProp→PathP}
 use Prim.Native.Nat.{ℕ, _≤_, min, max}
 use native.Mathlib.Bridge.{le-prop}
 use native.Mathlib.Omega.{arith}
-use borrow.Author.Tests.{leb-true, leb-false}
+use borrow.Author.Tests.{leb-true, leb-false, le-leb}
 use lib.Dec.{leb}
 use Rattle.std.proofs.shelf.Tests.{cond-both}
+use Rattle.std.specs.declared.option.Option.the-variants.{Some}
 use Rattle.kinds.specs.Kind.{Ops, Laws, AtMost}
-use Rattle.kinds.specs.Levels.{level, larger, smaller, ceiling, level-ops}
+use Rattle.kinds.specs.Levels.{level, new-level, larger, smaller, ceiling, level-ops}
 use Rattle.kinds.specs.declared.levels.Level.{Level}
 use Rattle.kinds.proofs.Chain
 use Rattle.kinds.proofs.Chain.{Ranked, larger-rank, smaller-rank}
@@ -17,6 +18,10 @@ use Rattle.kinds.proofs.Chain.{Ranked, larger-rank, smaller-rank}
 -- two levels are equal when their numbers are
 pub level-path : (a b : Level) → a .value ≡ b .value → a ≡ b
 level-path a b e = λ i. record { value = e i; ok = isProp→PathP (λ j. e j ≤ 127) (λ j. le-prop) (a .ok) (b .ok) i }
+
+-- a level is the level of its number
+pub level-again : (x : Level) → new-level (x .value) ≡ Some x
+level-again x = rw (le-leb (x .value) 127 (x .ok)) (ap Some (level-path (level (x .value)) x (omega (arith, x .ok))))
 
 pub joins : (a b : Level) → larger a b .value ≡ max (a .value) (b .value)
 joins = larger-rank (λ l. l .value)

@@ -19,6 +19,10 @@ set-path a b e = λ i. record { bits = e i; ok = isProp→PathP (λ j. e j < 2 ^
 pub bits-of : (n : ℕ) → n < 2 ^ 16 → of-bits n .bits ≡ n
 bits-of n h = mod-eq-of-lt h
 
+-- a set is the set of its bits
+pub set-again : (s : Channels) → of-bits (s .bits) ≡ s
+set-again s = set-path (of-bits (s .bits)) s (bits-of (s .bits) (s .ok))
+
 abbrev pub ∪ : Channels → Channels → Channels
 ∪ = set-ops .join
 

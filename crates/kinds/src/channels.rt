@@ -1,3 +1,4 @@
+ghost use mathlib.Core.Path.{_≡_};
 ghost use Prim.Native.Nat.{_^_, _<_};
 
 pub mod kind;
@@ -7,4 +8,12 @@ pub mod kind;
 pub struct Channels {
     bits: u16,
     ghost ok: { bits < 2 ^ 16 },
+}
+
+impl Channels {
+    pub fn bits(self) -> u16
+        ensures { λ r. ⌜ r ≡ self .bits ⌝ }
+    {
+        self.bits
+    }
 }

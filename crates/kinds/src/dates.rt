@@ -1,3 +1,4 @@
+ghost use mathlib.Core.Path.{_≡_};
 ghost use Prim.Native.Nat.{_≤_};
 
 pub mod kind;
@@ -7,6 +8,15 @@ pub mod kind;
 pub struct Tick {
     value: u32,
     ghost ok: { value ≤ 1000000 },
+}
+
+impl Tick {
+    // The milliseconds.
+    pub fn value(self) -> u32
+        ensures { λ r. ⌜ r ≡ self .value ⌝ }
+    {
+        self.value
+    }
 }
 
 // A date: never, a tick, or open, in this rising order.

@@ -2,16 +2,27 @@ ghost use mathlib.Core.Path.{_≡_};
 ghost use Rattle.std.specs.Orderings.{Decides};
 ghost use Rattle.kinds.specs.Kind.{Ops, Laws, AtMost};
 
-pub mod channels;
-pub mod dates;
-pub mod levels;
+mod channels;
+mod dates;
+mod levels;
 mod refusals;
 
 pub use channels::Channels;
+pub use channels::ChannelsDebug;
+pub use channels::ChannelsPartialEq;
+pub use channels::kind::ChannelsKind;
 pub use dates::Date;
+pub use dates::DateDebug;
+pub use dates::DatePartialEq;
 pub use dates::Tick;
+pub use dates::kind::DateKind;
 pub use levels::Level;
+pub use levels::LevelDebug;
+pub use levels::LevelPartialEq;
+pub use levels::kind::LevelKind;
 pub use refusals::Refusal;
+pub use refusals::RefusalDebug;
+pub use refusals::RefusalPartialEq;
 
 // A value kind. `ops` are its operations and its question; `laws` is every law
 // that code above may use, and that each kind proves.

@@ -11,18 +11,18 @@ impl Channels {
         Channels { bits }
     }
 
-    pub fn bits(self) -> u16
-        ensures { λ r. ⌜ r ≡ self .bits ⌝ }
+    // Whether the set holds a channel. In words of channels, join is union, meet and
+    // product are intersection, and the residual holds each channel outside the
+    // first set or in the second.
+    pub fn has(self, channel: u8) -> bool
+        ensures answer { λ r. ⌜ r ≡ has self channel ⌝ }
+        ensures words { λ _. ⌜ By-channels ⌝ }
     {
-        self.bits
+        if channel >= 16 {
+            return false;
+        }
+        (self.bits >> channel) % 2 == 1
     }
-}
-
-// The operations in words of channels: union, intersection, and for the residual
-// each channel outside the first set or in the second.
-pub fn sets_by_channels()
-    ensures { λ _. ⌜ By-channels ⌝ }
-{
 }
 
 pub impl Kind for Channels as ChannelsKind {

@@ -18,13 +18,11 @@ impl Tick {
     pub fn new(value: u32) -> Option<Tick>
         ensures { λ r. ⌜ r ≡ new-tick value ⌝ }
     {
-        if value <= 1_000_000 { Some(tick_of(value)) } else { None }
-    }
-
-    pub fn value(self) -> u32
-        ensures { λ r. ⌜ r ≡ self .value ⌝ }
-    {
-        self.value
+        if value <= 1_000_000 {
+            Some(tick_of(value))
+        } else {
+            None
+        }
     }
 }
 
@@ -74,7 +72,11 @@ pub impl Kind for Date as DateKind {
                 Date::Never => Date::Never,
                 Date::At(t) => {
                     let sum = s.value + t.value;
-                    if sum <= 1_000_000 { Date::At(tick_of(sum)) } else { Date::Open }
+                    if sum <= 1_000_000 {
+                        Date::At(tick_of(sum))
+                    } else {
+                        Date::Open
+                    }
                 }
                 Date::Open => Date::Open,
             },
@@ -91,7 +93,11 @@ pub impl Kind for Date as DateKind {
             Date::At(s) => match other {
                 Date::Never => Date::Never,
                 Date::At(t) => {
-                    if t.value < s.value { Date::Never } else { Date::At(tick_of(t.value - s.value)) }
+                    if t.value < s.value {
+                        Date::Never
+                    } else {
+                        Date::At(tick_of(t.value - s.value))
+                    }
                 }
                 Date::Open => Date::Open,
             },

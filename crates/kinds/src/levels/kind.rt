@@ -17,13 +17,11 @@ impl Level {
     pub fn new(value: u32) -> Option<Level>
         ensures { λ r. ⌜ r ≡ new-level value ⌝ }
     {
-        if value <= 127 { Some(level_of(value as u8)) } else { None }
-    }
-
-    pub fn value(self) -> u8
-        ensures { λ r. ⌜ r ≡ self .value ⌝ }
-    {
-        self.value
+        if value <= 127 {
+            Some(level_of(value as u8))
+        } else {
+            None
+        }
     }
 }
 
@@ -43,11 +41,19 @@ pub impl Kind for Level as LevelKind {
     }
 
     fn join(self, other: Level) -> Level {
-        if self.value <= other.value { other } else { self }
+        if self.value <= other.value {
+            other
+        } else {
+            self
+        }
     }
 
     fn meet(self, other: Level) -> Level {
-        if self.value <= other.value { self } else { other }
+        if self.value <= other.value {
+            self
+        } else {
+            other
+        }
     }
 
     fn product(self, other: Level) -> Level {
@@ -55,7 +61,11 @@ pub impl Kind for Level as LevelKind {
     }
 
     fn residual(self, other: Level) -> Level {
-        if self.value <= other.value { level_of(127) } else { other }
+        if other.value < self.value {
+            other
+        } else {
+            level_of(127)
+        }
     }
 
     fn at_most(self, other: Level) -> bool {

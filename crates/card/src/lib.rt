@@ -1,0 +1,5 @@
+mod faults;
+mod reports;
+
+pub use faults::fault_line;
+pub use reports::report;

@@ -1,0 +1,6 @@
+pub mod Splits
+pub mod Faults
+pub mod Fields
+pub mod Lines
+pub mod NetLines
+pub mod NetTexts
