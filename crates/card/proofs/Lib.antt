@@ -1,2 +1,6 @@
 pub mod Pieces
-pub mod Blanks
+pub mod Repeats
+pub mod Rows
+pub mod Verdicts
+pub mod Impulses
+pub mod Reporting

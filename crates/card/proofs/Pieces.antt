@@ -9,3 +9,8 @@ then-piece ys e h = e ∙ ap (λ z. z ++ ys) h
 -- three pieces after what was there
 pub three-on : (was a b c : List ℕ) → ((was ++ a) ++ b) ++ c ≡ was ++ ((a ++ b) ++ c)
 three-on was a b c = simp append-assoc
+
+-- and seven
+pub seven-on : (was a b c d e f g : List ℕ)
+    → ((((((was ++ a) ++ b) ++ c) ++ d) ++ e) ++ f) ++ g ≡ was ++ ((((((a ++ b) ++ c) ++ d) ++ e) ++ f) ++ g)
+seven-on was a b c d e f g = simp append-assoc

@@ -1,2 +1,5 @@
 pub mod FaultLines
+pub mod Copies
+pub mod Cells
+pub mod Responses
 pub mod Reports

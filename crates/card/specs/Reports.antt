@@ -1,28 +1,34 @@
--- What is told of a net's text: its fault, or what the net holds.
+-- What is told of a net's text: its fault, or what the net holds and how it responds.
 use mathlib.Core.List.{List, [], _∷_, _++_}
-use Prim.Native.Nat.{ℕ}
+use mathlib.Core.Path.{_≡_}
+use Prim.Native.Nat.{ℕ, min, max}
 use lib.Chars.{codes}
-use lib.ListN.{take, drop, replicate}
+use lib.ListN.{take, drop}
 use Rattle.std.specs.declared.result.Result.{Result}
 use Rattle.std.specs.declared.result.Result.the-variants.{Ok, Err}
 use Rattle.kinds.specs.Kind.{Ops}
 use Rattle.kinds.specs.Dates.{date-ops}
 use Rattle.kinds.specs.Levels.{level-ops}
 use Rattle.kinds.specs.Sets.{set-ops}
+use Rattle.kinds.specs.declared.refusals.Refusal.the-variants.{Circuit}
 use Rattle.links.specs.declared.Sort.the-variants.{Place, Input, Output}
 use Rattle.links.specs.declared.Link.{Link}
 use Rattle.links.specs.Tallies.{how-many}
 use Rattle.numerals.specs.declared.cards.Misread.{Misread}
 use Rattle.numerals.specs.Decimals.{text-of}
-use Rattle.numerals.specs.Texts.{date-of, level-of, channels-of}
+use Rattle.numerals.specs.Texts.{date-of, date-text, level-of, level-text, channels-of, channels-text}
+use Rattle.walks.specs.Circuits.{Passes}
 use Rattle.texts.specs.declared.faults.Fault.{Fault}
+use Rattle.texts.specs.declared.faults.TextName.the-variants.{Net}
 use Rattle.texts.specs.declared.positions.Position.{Position}
 use Rattle.texts.specs.declared.nets.ValueKind.{ValueKind}
 use Rattle.texts.specs.declared.nets.ValueKind.the-variants.{Dates, Levels, Sets}
 use Rattle.texts.specs.declared.nets.Header.{Header}
 use Rattle.texts.specs.Lines.{past}
 use Rattle.texts.specs.NetTexts.{After, header-from, links-from}
+use Rattle.card.specs.Copies.{copies}
 use Rattle.card.specs.FaultLines.{fault-text}
+use Rattle.card.specs.Responses.{response-rows}
 
 -- each row ends with the byte 10
 abbrev pub kind-row : ValueKind → List ℕ
@@ -47,31 +53,41 @@ net-words h links =
     ++ row (codes "input links: ") (how-many Input links))
     ++ row (codes "output links: ") (how-many Output links)
 
-abbrev pub told : {T : Type 0} → Header → Result (Unit {0}) Fault → List (Link T) → List ℕ
-told h (Ok _) links = net-words h links
-told h (Err f) links = fault-row f
+-- a circuit that cannot settle is a fault of the whole text
+abbrev pub circuit-fault : Fault
+circuit-fault = record { refusal = Circuit; text = Net; line = 0; field = 0 }
+
+-- a net that was read: what it holds and its first responses, if every circuit's gain is at most one, else the circuit
+abbrev pub Judged : {T : Type 0} → Ops T → (T → List ℕ) → Header → List (Link T) → List ℕ → Type 0
+Judged o text h links out =
+    (Passes o (max 1 (min (h .counts .transitions) 64)) links → out ≡ net-words h links ++ response-rows o text (h .counts) links)
+    × ((Passes o (max 1 (min (h .counts .transitions) 64)) links → ⊥) → out ≡ fault-row circuit-fault)
+
+abbrev pub Told : {T : Type 0} → Ops T → (T → List ℕ) → Header → Result (Unit {0}) Fault → List (Link T) → List ℕ → Type 0
+Told o text h (Ok _) links out = Judged o text h links out
+Told o text h (Err f) links out = out ≡ fault-row f
 
 -- reading the links of a text from a position on into a table
-abbrev pub found : {T : Type 0} → Header → After T → List ℕ
-found h a = told h (a .answer) (take (a .count) (a .table))
+abbrev pub Found : {T : Type 0} → Ops T → (T → List ℕ) → Header → After T → List ℕ → Type 0
+Found o text h a out = Told o text h (a .answer) (take (a .count) (a .table)) out
 
-abbrev pub described : {T : Type 0} → (List ℕ → Result T Misread) → Header → List ℕ → Position → List (Link T) → List ℕ
-described reading h text at table = found h (links-from reading (h .counts) text at table 0)
+abbrev pub Described : {T : Type 0} → Ops T → (T → List ℕ) → (List ℕ → Result T Misread) → Header → List ℕ → Position → List (Link T) → List ℕ → Type 0
+Described o text reading h net at table out = Found o text h (links-from reading (h .counts) net at table 0) out
 
--- a table of n links; reading writes over them from the first on
-unfoldable pub blanks : {T : Type 0} → Ops T → ℕ → List (Link T)
-blanks o n = replicate n (record { sort = Place; from = 0; to = 0; tokens = 0; value = o .bottom })
+-- a table is blank before reading writes over it
+abbrev pub blank : {T : Type 0} → Ops T → Link T
+blank o = record { sort = Place; from = 0; to = 0; tokens = 0; value = o .bottom }
 
--- the kind letter says how values are read
-abbrev pub by-kind : ValueKind → Header → List ℕ → Position → List ℕ
-by-kind Dates h text at = described date-of h text at (blanks date-ops 320)
-by-kind Levels h text at = described level-of h text at (blanks level-ops 320)
-by-kind Sets h text at = described channels-of h text at (blanks set-ops 320)
+-- the kind letter says how values are read and written
+abbrev pub By-kind : ValueKind → Header → List ℕ → Position → List ℕ → Type 0
+By-kind Dates h net at out = Described date-ops date-text date-of h net at (copies 320 (blank date-ops)) out
+By-kind Levels h net at out = Described level-ops level-text level-of h net at (copies 320 (blank level-ops)) out
+By-kind Sets h net at out = Described set-ops channels-text channels-of h net at (copies 320 (blank set-ops)) out
 
-abbrev pub by-header : List ℕ → Position → Result Header Fault → List ℕ
-by-header text at (Err f) = fault-row f
-by-header text at (Ok h) = by-kind (h .kind) h text (past at (drop (at .place) text))
+abbrev pub By-header : List ℕ → Position → Result Header Fault → List ℕ → Type 0
+By-header net at (Err f) out = out ≡ fault-row f
+By-header net at (Ok h) out = By-kind (h .kind) h net (past at (drop (at .place) net)) out
 
--- a whole text
-abbrev pub report-of : List ℕ → List ℕ
-report-of text = by-header text (record { place = 0; line = 0 }) (header-from text (record { place = 0; line = 0 }))
+-- these bytes are what is told of a whole text
+abbrev pub Reported : List ℕ → List ℕ → Type 0
+Reported net out = By-header net (record { place = 0; line = 0 }) (header-from net (record { place = 0; line = 0 })) out

@@ -4,8 +4,12 @@ ghost use Prim.Native.Nat.{_≤_};
 ghost use lib.ListN.{length, take};
 ghost use Rattle.std.specs.Of.Vec.{vec-items};
 ghost use Rattle.std.specs.Vec.{made};
-ghost use Rattle.card.specs.Reports.{kind-row, row, net-words, fault-row, blanks, described, by-kind, report-of};
+ghost use Rattle.card.specs.Copies.{copies};
+ghost use Rattle.card.specs.Reports.{kind-row, row, net-words, fault-row, blank, Judged, Described, By-kind, Reported};
+use crate::checks::passes;
+use crate::copies::copies_of;
 use crate::faults::fault_line;
+use crate::responses::write_responses;
 use kinds::Channels;
 use kinds::ChannelsKind;
 use kinds::Date;
@@ -13,6 +17,7 @@ use kinds::DateKind;
 use kinds::Kind;
 use kinds::Level;
 use kinds::LevelKind;
+use kinds::Refusal;
 use links::Link;
 use links::Sort;
 use links::count_sort;
@@ -26,6 +31,7 @@ use std::alloc::Global;
 use texts::Fault;
 use texts::Header;
 use texts::NetReader;
+use texts::TextName;
 use texts::ValueKind;
 
 fn kind_line(kind: ValueKind) -> &'static [u8]
@@ -71,26 +77,51 @@ fn words<T: Kind>(heap: Global, header: Header, links: &[Link<T>]) -> Result<Vec
     Ok(out)
 }
 
-// The same of the first links of a table.
-fn words_of<T: Kind>(
-    heap: Global,
-    header: Header,
-    table: &[Link<T>],
-    count: usize,
-) -> Result<Vec<u8>, AllocError>
-    requires { ⌜ count ≤ length (now table) ⌝ }
-    ensures { λ r. ⌜ made r (λ v. vec-items v ≡ net-words header (take count (now (table .entry)))) ⌝ }
-{
-    let out = words(heap, header, &table[0..count])?;
-    Ok(out)
-}
-
 // The line that tells of a fault.
 fn refused(heap: Global, fault: Fault) -> Result<Vec<u8>, AllocError>
     ensures { λ r. ⌜ made r (λ v. vec-items v ≡ fault-row fault) ⌝ }
 {
     let mut out = fault_line(heap, fault)?;
     out.push(b'\n')?;
+    Ok(out)
+}
+
+// What a net that was read holds and how it responds, or that a circuit cannot settle.
+fn judge<T: CardKind>(
+    heap: Global,
+    header: Header,
+    links: &[Link<T>],
+) -> Result<Vec<u8>, AllocError>
+    ensures { λ r. ⌜ made r (λ v. Judged (T·Kind .ops) text header (now (links .entry)) (vec-items v)) ⌝ }
+{
+    if passes(heap, links, header.counts.transitions as usize)? {
+        let mut out = words(heap, header, links)?;
+        write_responses(heap, header.counts, links, &mut out)?;
+        return Ok(out);
+    }
+    let out = refused(
+        heap,
+        Fault {
+            refusal: Refusal::Circuit,
+            text: TextName::Net,
+            line: 0,
+            field: 0,
+        },
+    )?;
+    Ok(out)
+}
+
+// The same of the first links of a table.
+fn judge_first<T: CardKind>(
+    heap: Global,
+    header: Header,
+    table: &[Link<T>],
+    count: usize,
+) -> Result<Vec<u8>, AllocError>
+    requires { ⌜ count ≤ length (now table) ⌝ }
+    ensures { λ r. ⌜ made r (λ v. Judged (T·Kind .ops) text header (take count (now (table .entry))) (vec-items v)) ⌝ }
+{
+    let out = judge(heap, header, &table[0..count])?;
     Ok(out)
 }
 
@@ -101,32 +132,32 @@ fn describe<T: CardKind>(
     header: Header,
     table: &mut [Link<T>],
 ) -> Result<Vec<u8>, AllocError>
-    ensures { λ r. ⌜ made r (λ v. vec-items v ≡ described reading header (now (reader .entry .text)) (reader .entry .at) (now (table .entry))) ⌝ }
+    ensures { λ r. ⌜ made r (λ v. Described (T·Kind .ops) text reading header (now (reader .entry .text)) (reader .entry .at) (now (table .entry)) (vec-items v)) ⌝ }
 {
     let mut count = 0;
-    let out = match reader.read_links(header.counts, table, &mut count) {
-        Ok(()) => words_of(heap, header, table, count)?,
-        Err(fault) => refused(heap, fault)?,
-    };
-    Ok(out)
+    match reader.read_links(header.counts, table, &mut count) {
+        Ok(()) => {
+            let out = judge_first(heap, header, table, count)?;
+            Ok(out)
+        }
+        Err(fault) => {
+            let out = refused(heap, fault)?;
+            Ok(out)
+        }
+    }
 }
 
-// A table of 320 links to read a net into.
-fn blank_table<T: Kind>(heap: Global) -> Result<Vec<Link<T>>, AllocError>
-    ensures { λ r. ⌜ made r (λ v. vec-items v ≡ blanks (T·Kind .ops) 320) ⌝ }
+// A link to fill a table with.
+fn blank_link<T: Kind>() -> Link<T>
+    ensures { λ r. ⌜ r ≡ blank (T·Kind .ops) ⌝ }
 {
-    let link = Link {
+    Link {
         sort: Sort::Place,
         from: 0,
         to: 0,
         tokens: 0,
         value: T::bottom(),
-    };
-    let mut table = Vec::new(heap);
-    for _made in 0..320usize {
-        table.push(link)?;
     }
-    Ok(table)
 }
 
 // Reads the links of a net as values of one kind.
@@ -135,16 +166,16 @@ fn describe_as<T: CardKind>(
     reader: NetReader<'_>,
     header: Header,
 ) -> Result<Vec<u8>, AllocError>
-    ensures { λ r. ⌜ made r (λ v. vec-items v ≡ described reading header (now (reader .entry .text)) (reader .entry .at) (blanks (T·Kind .ops) 320)) ⌝ }
+    ensures { λ r. ⌜ made r (λ v. Described (T·Kind .ops) text reading header (now (reader .entry .text)) (reader .entry .at) (copies 320 (blank (T·Kind .ops))) (vec-items v)) ⌝ }
 {
-    let mut table = blank_table::<T>(heap)?;
+    let mut table = copies_of(heap, 320, blank_link::<T>())?;
     let out = describe(heap, reader, header, table.as_mut_slice())?;
     Ok(out)
 }
 
 // Reads the links of a net as values of the kind that its header names.
 fn describe_kind(heap: Global, reader: NetReader<'_>, header: Header) -> Result<Vec<u8>, AllocError>
-    ensures { λ r. ⌜ made r (λ v. vec-items v ≡ by-kind (header .kind) header (now (reader .entry .text)) (reader .entry .at)) ⌝ }
+    ensures { λ r. ⌜ made r (λ v. By-kind (header .kind) header (now (reader .entry .text)) (reader .entry .at) (vec-items v)) ⌝ }
 {
     let out = match header.kind {
         ValueKind::Dates => describe_as::<Date>(heap, reader, header)?,
@@ -154,14 +185,19 @@ fn describe_kind(heap: Global, reader: NetReader<'_>, header: Header) -> Result<
     Ok(out)
 }
 
-// What is told of a net's text: the line of its fault, or what the net holds, in words.
+// What is told of a net's text: the line of its fault, or what the net holds and how it responds, in words.
 pub fn report(heap: Global, net: &[u8]) -> Result<Vec<u8>, AllocError>
-    ensures { λ r. ⌜ made r (λ v. vec-items v ≡ report-of (now (net .entry))) ⌝ }
+    ensures { λ r. ⌜ made r (λ v. Reported (now (net .entry)) (vec-items v)) ⌝ }
 {
     let mut reader = NetReader::new(net);
-    let out = match reader.read_header() {
-        Ok(header) => describe_kind(heap, reader, header)?,
-        Err(fault) => refused(heap, fault)?,
-    };
-    Ok(out)
+    match reader.read_header() {
+        Ok(header) => {
+            let out = describe_kind(heap, reader, header)?;
+            Ok(out)
+        }
+        Err(fault) => {
+            let out = refused(heap, fault)?;
+            Ok(out)
+        }
+    }
 }

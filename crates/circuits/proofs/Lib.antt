@@ -1,0 +1,5 @@
+pub mod Spots
+pub mod Tables
+pub mod Steps
+pub mod Verdicts
+pub mod Pinned

@@ -1,0 +1,9 @@
+pub mod Rows
+pub mod Geometry
+pub mod Sweeps
+pub mod Legs
+pub mod Copies
+pub mod Settles
+pub mod Plays
+pub mod Drives
+pub mod Strikes

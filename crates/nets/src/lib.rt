@@ -1,0 +1,6 @@
+mod moves;
+mod net;
+mod stage;
+
+pub use net::Net;
+pub use net::calls::NetPlant;

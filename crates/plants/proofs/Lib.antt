@@ -1,0 +1,4 @@
+pub mod Order
+pub mod Joins
+pub mod Blocks
+pub mod Galois

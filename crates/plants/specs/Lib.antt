@@ -1,0 +1,5 @@
+pub mod Fits
+pub mod Meaning
+pub mod Horizons
+pub mod Calls
+pub mod Theorems

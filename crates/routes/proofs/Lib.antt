@@ -1,0 +1,10 @@
+pub mod Lists
+pub mod WayMonoids
+pub mod Ends
+pub mod Turns
+pub mod RouteLaws
+pub mod Superposed
+pub mod Adjoint
+pub mod Stable
+pub mod Solutions
+pub mod Residuals

@@ -1,0 +1,4 @@
+pub mod Ways
+pub mod Routes
+pub mod Solutions
+pub mod Theorems

@@ -1,0 +1,4 @@
+pub mod Folds
+pub mod Circuits
+pub mod Walks
+pub mod Searches
