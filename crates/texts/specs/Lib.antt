@@ -4,3 +4,4 @@ pub mod Fields
 pub mod Lines
 pub mod NetLines
 pub mod NetTexts
+pub mod Scores

@@ -1,15 +1,22 @@
 -- Lines of a text: at most 64 bytes before the byte 10 that ends each.
+use mathlib.Core.Bool.{cond}
 use mathlib.Core.List.{List}
 use Prim.Native.Nat.{ℕ, _+_}
 use lib.Dec.{ltb, leb}
 use lib.ListN.{length}
 use Rattle.std.specs.declared.result.Result.{Result}
 use Rattle.std.specs.declared.result.Result.the-variants.{Ok, Err}
-use Rattle.kinds.specs.declared.refusals.Refusal.the-variants.{Shape}
+use Rattle.kinds.specs.declared.refusals.Refusal.the-variants.{Shape, Full}
 use Rattle.texts.specs.declared.faults.Wrong.{Wrong}
+use Rattle.texts.specs.declared.faults.Fault.{Fault}
+use Rattle.texts.specs.declared.faults.TextName.{TextName}
 use Rattle.texts.specs.declared.positions.Position.{Position}
 use Rattle.texts.specs.Splits.{before}
 use Rattle.texts.specs.Faults.{check}
+
+-- a text has at most 16,384 bytes; one too long is refused in line 0, before any line
+abbrev pub within : TextName → List ℕ → Result (Unit {0}) Fault
+within name text = cond (leb (length text) 16384) (Ok tt) (Err (record { refusal = Full; text = name; line = 0; field = 0 }))
 
 -- the next line of what is left of a text: checked for its end, emptiness and length
 abbrev pub line-of : List ℕ → Result (List ℕ) Wrong

@@ -17,12 +17,8 @@ use Rattle.texts.specs.declared.positions.Position.{Position}
 use Rattle.texts.specs.declared.nets.Header.{Header}
 use Rattle.texts.specs.Splits.{pieces}
 use Rattle.texts.specs.Faults.{then, check, fault-at, faulted}
-use Rattle.texts.specs.Lines.{line-of, past}
+use Rattle.texts.specs.Lines.{within, line-of, past}
 use Rattle.texts.specs.NetLines.{header-line, net-line}
-
--- a text has at most 16,384 bytes; one too long is refused in line 0, before any line
-abbrev pub within : List ℕ → Result (Unit {0}) Fault
-within text = cond (leb (length text) 16384) (Ok tt) (Err (record { refusal = Full; text = Net; line = 0; field = 0 }))
 
 abbrev pub first-line : List ℕ → Result Header Wrong
 first-line rest = then (line-of rest) header-line
@@ -33,7 +29,7 @@ header-by text at (Err f) = Err f
 header-by text at (Ok _) = faulted Net (at .line + 1) (first-line (drop (at .place) text))
 
 abbrev pub header-from : List ℕ → Position → Result Header Fault
-header-from text at = header-by text at (within text)
+header-from text at = header-by text at (within Net text)
 
 -- the table has a free cell, and fewer than 320 links stand in it
 abbrev pub has-space : ℕ → ℕ → Bool
@@ -104,4 +100,4 @@ links-by reading n text at table count (Err f) = record { answer = Err f; at = a
 links-by reading n text at table count (Ok _) = links-on reading n text at table count
 
 abbrev pub links-from : {T : Type 0} → (List ℕ → Result T Misread) → Counts → List ℕ → Position → List (Link T) → ℕ → After T
-links-from reading n text at table count = links-by reading n text at table count (within text)
+links-from reading n text at table count = links-by reading n text at table count (within Net text)

@@ -5,7 +5,7 @@ ghost use lib.ListN.{length, drop, set};
 ghost use Rattle.texts.specs.Splits.{fields};
 ghost use Rattle.texts.specs.Lines.{position-after};
 ghost use Rattle.texts.specs.NetLines.{sort-of, arity, from-bound, to-bound, tokens-at, link-of, net-line, kind-at, header-of, header-line};
-ghost use Rattle.texts.specs.NetTexts.{within, first-line, header-from, step-of, told, table-after, count-after, links-on, links-from};
+ghost use Rattle.texts.specs.NetTexts.{first-line, header-from, step-of, told, table-after, count-after, links-on, links-from};
 use crate::faults::Fault;
 use crate::faults::TextName;
 use crate::faults::Wrong;
@@ -17,6 +17,7 @@ use crate::fields::index_field;
 use crate::fields::value_field;
 use crate::positions::Guard;
 use crate::positions::Position;
+use crate::positions::check_length;
 use crate::positions::take_line;
 use kinds::Refusal;
 use links::Counts;
@@ -221,22 +222,6 @@ impl<'a> NetReader<'a> {
 }
 
 impl NetReader<'_> {
-    // Refuses a text of more than 16,384 bytes.
-    fn check_length(&self) -> Result<(), Fault>
-        ensures { λ r. ⌜ r ≡ within (now (now (self .entry) .text)) ⌝ }
-    {
-        if self.text.len() <= 16_384 {
-            Ok(())
-        } else {
-            Err(Fault {
-                refusal: Refusal::Full,
-                text: TextName::Net,
-                line: 0,
-                field: 0,
-            })
-        }
-    }
-
     // Reads the next line as a first line.
     fn take_header(&mut self) -> Result<Header, Wrong>
         ensures result { λ r. ⌜ r ≡ first-line (drop (now (self .entry) .at .place) (now (now (self .entry) .text))) ⌝ }
@@ -293,7 +278,7 @@ impl NetReader<'_> {
         ensures position { λ r. ⌜ now (self .exit) .at ≡ position-after r (now (self .entry) .at) (drop (now (self .entry) .at .place) (now (now (self .entry) .text))) ⌝ }
         ensures same { λ r. ⌜ now (now (self .exit) .text) ≡ now (now (self .entry) .text) ⌝ }
     {
-        self.check_length()?;
+        check_length(self.text, TextName::Net)?;
         let line = self.at.line + 1;
         with_line(self.take_header(), TextName::Net, line)
     }
@@ -329,7 +314,7 @@ impl NetReader<'_> {
         ensures within { λ r. ⌜ (now (count .entry) ≤ length (now (table .entry)) → now (count .exit) ≤ length (now (table .entry))) ⌝ }
         ensures same { λ r. ⌜ now (now (self .exit) .text) ≡ now (now (self .entry) .text) ⌝ }
     {
-        self.check_length()?;
+        check_length(self.text, TextName::Net)?;
         self.walk_links(counts, table, count)
     }
 }

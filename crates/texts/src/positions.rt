@@ -3,7 +3,9 @@ ghost use Prim.Native.Nat.{_≤_};
 ghost use lib.ListN.{length, drop};
 ghost use Rattle.std.specs.Results.{Cases};
 ghost use Rattle.std.specs.declared.result.Result.the-variants.{Ok, Err};
-ghost use Rattle.texts.specs.Lines.{line-of, past};
+ghost use Rattle.texts.specs.Lines.{within, line-of, past};
+use crate::faults::Fault;
+use crate::faults::TextName;
 use crate::faults::Wrong;
 use crate::fields::span;
 use kinds::Refusal;
@@ -36,6 +38,22 @@ impl Guard<'_> {
         ensures { λ _. ⌜ now (self .exit .0) ≡ now (self .entry .at) ⌝ }
     {
         let Guard { at: _, start: _ } = self;
+    }
+}
+
+// Refuses a text of more than 16,384 bytes.
+pub(crate) fn check_length(text: &[u8], name: TextName) -> Result<(), Fault>
+    ensures { λ r. ⌜ r ≡ within name (now (text .entry)) ⌝ }
+{
+    if text.len() <= 16_384 {
+        Ok(())
+    } else {
+        Err(Fault {
+            refusal: Refusal::Full,
+            text: name,
+            line: 0,
+            field: 0,
+        })
     }
 }
 

@@ -15,6 +15,7 @@ use kinds::Kind;
 use kinds::Level;
 use kinds::LevelKind;
 use links::Link;
+use std::alloc::AllocError;
 use std::alloc::Global;
 use std::test::*;
 
@@ -65,8 +66,8 @@ fn refuses<T: Kind>(
 #[test]
 fn two_places(rt: LibcRuntime) -> Result<(), Fail> {
     let heap = rt.alloc();
-    let zero = date(0)?;
-    let some = date(30)?;
+    let zero = date(0);
+    let some = date(30);
     refuses(
         heap,
         &[place(0, 1, 0, some), place(1, 0, 0, zero)],
@@ -82,8 +83,8 @@ fn two_places(rt: LibcRuntime) -> Result<(), Fail> {
 #[test]
 fn lone_loops(rt: LibcRuntime) -> Result<(), Fail> {
     let heap = rt.alloc();
-    refuses(heap, &[place(3, 3, 0, date(1)?)], 5, 3, &[3]).note("1 tick")?;
-    accepts(heap, &[place(3, 3, 0, date(0)?)], 5).note("0 ticks")?;
+    refuses(heap, &[place(3, 3, 0, date(1))], 5, 3, &[3]).note("1 tick")?;
+    accepts(heap, &[place(3, 3, 0, date(0))], 5).note("0 ticks")?;
     refuses(heap, &[place(3, 3, 0, Date::Open)], 5, 3, &[3]).note("open")?;
     accepts(heap, &[place(3, 3, 0, Date::Never)], 5).note("never")
 }
@@ -91,8 +92,8 @@ fn lone_loops(rt: LibcRuntime) -> Result<(), Fail> {
 #[test]
 fn which_is_named(rt: LibcRuntime) -> Result<(), Fail> {
     let heap = rt.alloc();
-    let zero = date(0)?;
-    let five = date(5)?;
+    let zero = date(0);
+    let five = date(5);
     let parallel = [
         place(0, 1, 0, zero),
         place(0, 1, 0, five),
@@ -131,8 +132,8 @@ fn which_is_named(rt: LibcRuntime) -> Result<(), Fail> {
 }
 
 // A ring of 64 tokenless places, all of 0 ticks but the one out of transition 17.
-fn ring(heap: Global, odd: Date) -> Result<Vec<Link<Date>>, Fail> {
-    let zero = date(0)?;
+fn ring(heap: Global, odd: Date) -> Result<Vec<Link<Date>>, AllocError> {
+    let zero = date(0);
     let mut links = Vec::new(heap);
     for from in 0u8..64 {
         let value = if from == 17 { odd } else { zero };
@@ -144,21 +145,21 @@ fn ring(heap: Global, odd: Date) -> Result<Vec<Link<Date>>, Fail> {
 #[test]
 fn rings(rt: LibcRuntime) -> Result<(), Fail> {
     let heap = rt.alloc();
-    let faulty = ring(heap, date(1)?)?;
+    let faulty = ring(heap, date(1))?;
     let mut all = Vec::new(heap);
     for transition in 0u8..64 {
         all.push(transition)?;
     }
     refuses(heap, faulty.as_slice(), 64, 0, all.as_slice()).note("gain 1")?;
     accepts(heap, faulty.as_slice(), 63).note("a transition less")?;
-    let even = ring(heap, date(0)?)?;
+    let even = ring(heap, date(0))?;
     accepts(heap, even.as_slice(), 64).note("gain 0")
 }
 
 #[test]
 fn counts(rt: LibcRuntime) -> Result<(), Fail> {
     let heap = rt.alloc();
-    let one = date(1)?;
+    let one = date(1);
     let outer = [place(0, 2, 0, one), place(2, 0, 0, one)];
     accepts(heap, &outer, 2).note("a link beyond the count")?;
     refuses(heap, &outer, 3, 0, &[0, 2]).note("a link within the count")?;
@@ -169,51 +170,52 @@ fn counts(rt: LibcRuntime) -> Result<(), Fail> {
     accepts(heap, &[place(64, 64, 0, one)], 65).note("65 is 64, the outer loop")
 }
 
-// A check of a refused net of n transitions with so many cells, and a list of `room` bytes.
-// Cells from `kept` on are unchanged, and the list too where the check is too short.
+// A check of n transitions, with a loop of this gain at transition 0, has so many cells and
+// a list of `room` bytes. The cells from `kept` on are unchanged.
 fn measures(
     heap: Global,
+    gain: Date,
     n: usize,
     cells: usize,
     room: usize,
     kept: usize,
-    wanted: CircuitFault,
+    wanted: Result<(), CircuitFault>,
 ) -> Result<(), Fail> {
-    let one = date(1)?;
-    let mark = date(77)?;
+    let mark = date(77);
+    let links = [place(0, 0, 0, gain)];
     let mut sheet = copies_of(heap, cells, mark)?;
     let mut list = copies_of(heap, room, MARK)?;
     check_eq(
-        check_circuits(
-            &[place(0, 0, 0, one)],
-            n,
-            sheet.as_mut_slice(),
-            list.as_mut_slice(),
-        ),
-        Err(wanted),
+        check_circuits(&links, n, sheet.as_mut_slice(), list.as_mut_slice()),
+        wanted,
     )?;
     for cell in sheet.as_slice().iter().skip(kept) {
         check_eq(*cell, mark)?;
     }
     match wanted {
-        CircuitFault::Short => begins(list.as_slice(), &[]),
-        CircuitFault::Circuit(_, _) => begins(list.as_slice(), &[0]),
+        Err(CircuitFault::Circuit(_, _)) => begins(list.as_slice(), &[0]),
+        _ => begins(list.as_slice(), &[]),
     }
 }
 
 #[test]
 fn space(rt: LibcRuntime) -> Result<(), Fail> {
     let heap = rt.alloc();
-    let fault = CircuitFault::Circuit(0, 1);
-    measures(heap, 2, 8, 64, 8, fault).note("just enough")?;
-    measures(heap, 2, 7, 64, 0, CircuitFault::Short).note("a cell short")?;
-    measures(heap, 2, 8, 63, 0, CircuitFault::Short).note("a byte short")?;
-    measures(heap, 2, 0, 0, 0, CircuitFault::Short).note("nothing")?;
-    measures(heap, 2, 12, 70, 8, fault).note("more than enough")?;
-    measures(heap, 0, 1, 64, 0, CircuitFault::Short).note("0 is 1, a cell short")?;
-    measures(heap, 0, 2, 64, 2, fault).note("0 is 1, enough")?;
-    measures(heap, 65, 8191, 64, 0, CircuitFault::Short).note("65 is 64, a cell short")?;
-    measures(heap, 65, 8192, 64, 8192, fault).note("65 is 64, enough")
+    let zero = date(0);
+    let one = date(1);
+    let named = Err(CircuitFault::Circuit(0, 1));
+    let short = Err(CircuitFault::Short);
+    measures(heap, one, 2, 8, 64, 8, named).note("just enough")?;
+    measures(heap, one, 2, 7, 64, 0, short).note("a cell short")?;
+    measures(heap, one, 2, 8, 63, 0, short).note("a byte short")?;
+    measures(heap, one, 2, 0, 0, 0, short).note("nothing")?;
+    measures(heap, one, 2, 12, 70, 8, named).note("more than enough, refused")?;
+    measures(heap, zero, 2, 12, 70, 8, Ok(())).note("more than enough, accepted")?;
+    measures(heap, zero, 2, 7, 64, 0, short).note("a cell short of an accepted net")?;
+    measures(heap, one, 0, 1, 64, 0, short).note("0 is 1, a cell short")?;
+    measures(heap, one, 0, 2, 64, 2, named).note("0 is 1, enough")?;
+    measures(heap, one, 65, 8191, 64, 0, short).note("65 is 64, a cell short")?;
+    measures(heap, one, 65, 8192, 64, 8192, named).note("65 is 64, enough")
 }
 
 // One is top, so that every circuit passes.

@@ -1,25 +1,26 @@
 use kinds::Date;
+use kinds::Kind;
 use kinds::Level;
+use kinds::LevelKind;
 use kinds::Tick;
 use links::Link;
 use links::Sort;
 use std::alloc::AllocError;
 use std::alloc::Global;
-use std::test::*;
 
-// The date of a number of milliseconds.
-pub(crate) fn date(value: u32) -> Result<Date, Fail> {
-    match Tick::new(value) {
-        Some(tick) => Ok(Date::At(tick)),
-        None => Err(Fail::new("no tick")),
+// The date of a few milliseconds, which are a tick.
+pub(crate) fn date(value: u16) -> Date {
+    match Tick::new(value as u32) {
+        Some(tick) => Date::At(tick),
+        None => Date::Never,
     }
 }
 
-// The level of a number.
-pub(crate) fn level(value: u32) -> Result<Level, Fail> {
-    match Level::new(value) {
-        Some(level) => Ok(level),
-        None => Err(Fail::new("no level")),
+// The level of a number from 0 to 127; a greater number gives 0.
+pub(crate) fn level(value: u8) -> Level {
+    match Level::new(value as u32) {
+        Some(level) => level,
+        None => Level::bottom(),
     }
 }
 

@@ -4,6 +4,7 @@ use crate::makers::leaving;
 use crate::makers::level;
 use crate::makers::place;
 use crate::sheets::answers;
+use crate::sheets::needs;
 use crate::sheets::recalls;
 use crate::sheets::strikes;
 use kinds::Channels;
@@ -23,7 +24,6 @@ use kinds::RefusalDebug;
 use links::Link;
 use nets::Net;
 use nets::NetPlant;
-use plants::Horizon;
 use plants::Places;
 use plants::Plant;
 use std::alloc::AllocError;
@@ -48,9 +48,8 @@ fn links_of<T: Copy>(
 }
 
 // Such links over dates.
-fn dated_links(heap: Global) -> Result<Vec<Link<Date>>, Fail> {
-    let links = links_of(heap, date(0)?, date(30)?, date(120)?, date(0)?)?;
-    Ok(links)
+fn dated_links(heap: Global) -> Result<Vec<Link<Date>>, AllocError> {
+    links_of(heap, date(0), date(30), date(120), date(0))
 }
 
 #[test]
@@ -58,11 +57,11 @@ fn dates(rt: LibcRuntime) -> Result<(), Fail> {
     let heap = rt.alloc();
     let links = dated_links(heap)?;
     let net = Net::new(links.as_slice(), 2, 1, 1);
-    let mark = date(999)?;
+    let mark = date(999);
     let never = Date::Never;
     let open = Date::Open;
-    let impulse = [date(0)?, never, never];
-    let response = [date(30)?, date(180)?, date(330)?];
+    let impulse = [date(0), never, never];
+    let response = [date(30), date(180), date(330)];
     strikes(heap, &net, mark, &impulse, &response).note("impulse")?;
     strikes(
         heap,
@@ -71,30 +70,51 @@ fn dates(rt: LibcRuntime) -> Result<(), Fail> {
         &[never, never, never],
         &[never, never, never],
     ).note("silence")?;
-    let dues = [date(500)?, date(600)?, date(900)?];
-    let plan = [date(420)?, date(570)?, date(870)?];
-    let heard = [date(450)?, date(600)?, date(900)?];
+    let dues = [date(500), date(600), date(900)];
+    let plan = [date(420), date(570), date(870)];
+    let heard = [date(450), date(600), date(900)];
     recalls(heap, &net, mark, &dues, &plan).note("plan")?;
     strikes(heap, &net, mark, &plan, &heard).note("plan played")?;
     recalls(heap, &net, mark, &[open, open, open], &[open, open, open]).note("all open")
 }
 
+// Links beyond the counts take no part.
+#[test]
+fn strangers(rt: LibcRuntime) -> Result<(), Fail> {
+    let heap = rt.alloc();
+    let zero = date(0);
+    let mut links = dated_links(heap)?;
+    links.push(entry(1, 0, zero))?;
+    links.push(entry(0, 2, zero))?;
+    links.push(place(0, 2, 0, zero))?;
+    links.push(place(2, 1, 0, zero))?;
+    links.push(leaving(0, 1, zero))?;
+    links.push(leaving(2, 0, zero))?;
+    let net = Net::new(links.as_slice(), 2, 1, 1);
+    let played = [zero, Date::Never, Date::Never];
+    let heard = [date(30), date(180), date(330)];
+    strikes(heap, &net, date(999), &played, &heard).note("forward")?;
+    let dues = [date(500), date(600), date(900)];
+    let plan = [date(420), date(570), date(870)];
+    recalls(heap, &net, date(1), &dues, &plan).note("backward")
+}
+
 #[test]
 fn levels(rt: LibcRuntime) -> Result<(), Fail> {
     let heap = rt.alloc();
-    let links = links_of(heap, level(100)?, level(90)?, level(60)?, level(110)?)?;
+    let links = links_of(heap, level(100), level(90), level(60), level(110))?;
     let net = Net::new(links.as_slice(), 2, 1, 1);
-    let mark = level(77)?;
-    let played = [level(120)?, level(0)?, level(80)?];
-    let heard = [level(90)?, level(60)?, level(80)?];
+    let mark = level(77);
+    let played = [level(120), level(0), level(80)];
+    let heard = [level(90), level(60), level(80)];
     strikes(heap, &net, mark, &played, &heard).note("forward")?;
-    let dues = [level(95)?, level(50)?, level(70)?];
-    let plan = [level(50)?, level(50)?, level(70)?];
+    let dues = [level(95), level(50), level(70)];
+    let plan = [level(50), level(50), level(70)];
     recalls(heap, &net, mark, &dues, &plan).note("backward")?;
     strikes(heap, &net, mark, &plan, &plan).note("plan played")?;
-    let loose = [level(95)?, level(65)?, level(100)?];
-    let top = level(127)?;
-    recalls(heap, &net, mark, &loose, &[top, level(65)?, top]).note("backward to the top")
+    let loose = [level(95), level(65), level(100)];
+    let top = level(127);
+    recalls(heap, &net, mark, &loose, &[top, level(65), top]).note("backward to the top")
 }
 
 #[test]
@@ -155,7 +175,7 @@ fn tries(
         output,
         working,
     };
-    answers(heap, &net, date(999)?, len, at, wanted)
+    answers(heap, &net, date(999), len, at, wanted)
 }
 
 fn refuses(
@@ -168,14 +188,36 @@ fn refuses(
     tries(heap, len, input, output, working, Err(Refusal::Short))
 }
 
+// A net made with the first three counts has the other three transitions, inputs and outputs.
+fn counts_as(
+    transitions: usize,
+    inputs: usize,
+    outputs: usize,
+    n: usize,
+    m: usize,
+    p: usize,
+) -> Result<(), Fail> {
+    let links = [entry(0, 0, date(0))];
+    let net = Net::new(&links, transitions, inputs, outputs);
+    check(n <= 64)?;
+    needs(&net, 1, 2 * n)?;
+    needs(&net, 3, 4 * n)?;
+    needs(&net, 64, 65 * n)?;
+    check_eq(net.inputs(), m)?;
+    check_eq(net.outputs(), p)
+}
+
 #[test]
-fn needs(rt: LibcRuntime) -> Result<(), Fail> {
+fn counts() -> Result<(), Fail> {
+    counts_as(2, 1, 1, 2, 1, 1)?;
+    counts_as(64, 16, 16, 64, 16, 16)?;
+    counts_as(0, 0, 0, 1, 1, 1)?;
+    counts_as(65, 17, 17, 64, 16, 16)
+}
+
+#[test]
+fn room(rt: LibcRuntime) -> Result<(), Fail> {
     let heap = rt.alloc();
-    let links = dated_links(heap)?;
-    let net = Net::new(links.as_slice(), 2, 1, 1);
-    check_eq(net.need(Horizon::new(1)?), 4)?;
-    check_eq(net.need(Horizon::new(3)?), 8)?;
-    check_eq(net.need(Horizon::new(64)?), 130)?;
     tries(heap, 14, 0, 3, 6, Ok(())).note("just enough")?;
     tries(heap, 14, 3, 0, 6, Ok(())).note("the output first")?;
     tries(heap, 20, 0, 5, 11, Ok(())).note("blocks apart")?;

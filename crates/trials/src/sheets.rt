@@ -121,3 +121,9 @@ pub(crate) fn answers<T: Kind + PartialEq<T> + Debug, P: Plant<Value = T>>(
     }
     Ok(())
 }
+
+// A call of so many beats needs so many working cells.
+pub(crate) fn needs<P: Plant>(plant: &P, beats: usize, cells: usize) -> Result<(), Fail> {
+    let k = Horizon::new(beats)?;
+    check_eq(plant.need(k), cells)
+}

@@ -1,0 +1,6 @@
+pub mod Places
+pub mod Parts
+pub mod Duly
+pub mod Lawful
+pub mod Misses
+pub mod Played

@@ -1,0 +1,6 @@
+pub mod Sheets
+pub mod Orders
+pub mod Cells
+pub mod Steps
+pub mod Phases
+pub mod Promises

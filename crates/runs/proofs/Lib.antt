@@ -1,0 +1,5 @@
+pub mod Whys
+pub mod Puts
+pub mod Rivals
+pub mod Runs
+pub mod One
