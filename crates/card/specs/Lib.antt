@@ -1,4 +1,3 @@
-pub mod FaultLines
 pub mod Copies
 pub mod Cells
 pub mod Responses

@@ -27,7 +27,7 @@ use Rattle.texts.specs.declared.nets.Header.{Header}
 use Rattle.texts.specs.Lines.{past}
 use Rattle.texts.specs.NetTexts.{After, header-from, links-from}
 use Rattle.card.specs.Copies.{copies}
-use Rattle.card.specs.FaultLines.{fault-text}
+use Rattle.listing.specs.FaultLines.{fault-text}
 use Rattle.card.specs.Responses.{response-rows}
 
 -- each row ends with the byte 10

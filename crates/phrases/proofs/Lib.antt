@@ -4,3 +4,4 @@ pub mod Duly
 pub mod Lawful
 pub mod Misses
 pub mod Played
+pub mod Following

@@ -4,3 +4,4 @@ pub mod Cells
 pub mod Steps
 pub mod Phases
 pub mod Promises
+pub mod Events

@@ -25,6 +25,7 @@ pub struct Returned {
 }
 
 // The lanes of the inputs.
+#[derive(Drop)]
 pub struct Lanes {
     pub(crate) table: [Lane; 16],
 }

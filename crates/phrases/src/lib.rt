@@ -11,6 +11,7 @@ pub use states::Phrase;
 pub use states::Playing;
 pub use states::Written;
 pub use states::calls::write;
+pub use states::events::Happened;
 pub use states::phase::Performance;
 pub use states::phase::Phase;
 pub use states::run::perform;

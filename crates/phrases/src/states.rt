@@ -8,11 +8,13 @@ use plants::Horizon;
 
 mod blocks;
 pub mod calls;
+pub mod events;
 pub mod phase;
 pub mod run;
 mod steps;
 
 // A plant, the beats of the phrase, and a lane for each input.
+#[derive(Drop)]
 pub struct Phrase<P> {
     plant: P,
     horizon: Horizon,
@@ -22,6 +24,7 @@ pub struct Phrase<P> {
 }
 
 // A phrase that is not yet started: no beat is fixed and no order is out.
+#[derive(Drop)]
 pub struct Written<P> {
     phrase: Phrase<P>,
     ghost unfixed: { (i : ℕ) → i < 16 → lane-at (phrase .lanes .table) i .fixed ≡ 0 },
@@ -29,11 +32,13 @@ pub struct Written<P> {
 }
 
 // A phrase that is started: it takes dues, orders, firings and misses.
+#[derive(Drop)]
 pub struct Playing<P> {
     phrase: Phrase<P>,
 }
 
 // A phrase that is ended: it takes misses only, and strikes.
+#[derive(Drop)]
 pub struct Ended<P> {
     phrase: Phrase<P>,
 }

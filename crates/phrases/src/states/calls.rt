@@ -40,6 +40,7 @@ pub fn write<P: Plant>(plant: P, horizon: Horizon) -> Written<P>
 }
 
 impl<P: Plant> Written<P> {
+    // Sets score and plan to top and the strikes to bottom. Refused with 8.
     pub fn lay(&self, sheet: &mut [P::Value]) -> Result<(), Refusal>
         ensures cells { λ r. ⌜ Lay-cells (Value·Kind .ops) meaning need (now (self .entry) .phrase) (now (sheet .entry)) (now (sheet .exit)) r ⌝ }
         ensures law { λ r. ⌜ Law (Value·Kind .ops) meaning need written written (now (self .entry) .phrase) (now (self .entry) .phrase) (lay-act r) (now (sheet .entry)) (now (sheet .exit)) ⌝ }
@@ -47,6 +48,8 @@ impl<P: Plant> Written<P> {
         self.phrase.lay(sheet)
     }
 
+    // Changes one cell of the score and plans anew: the open cells of the plan become the
+    // ceiling. Refused with 8, 7, or 20 where no plan is left; then score and plan stay.
     pub fn due(
         &self,
         sheet: &mut [P::Value],
@@ -60,6 +63,7 @@ impl<P: Plant> Written<P> {
         self.phrase.due(sheet, output, beat, value)
     }
 
+    // From now on orders are taken, and no lay.
     pub fn start(self) -> Playing<P>
         ensures same { λ r. ⌜ r .phrase ≡ self .phrase ⌝ }
         ensures law { λ r. ⌜ ((s : List (P·Value)) → Law (Value·Kind .ops) meaning need written playing (self .phrase) (r .phrase) start-act s s) ⌝ }
@@ -70,6 +74,9 @@ impl<P: Plant> Written<P> {
 }
 
 impl<P: Plant> Playing<P> {
+    // Changes one cell of the score and plans anew: the fixed cells of the plan stay, the open
+    // ones become the ceiling. Refused with 8, 7, or 20 where no plan is left; then score and
+    // plan stay.
     pub fn due(
         &self,
         sheet: &mut [P::Value],
@@ -83,6 +90,8 @@ impl<P: Plant> Playing<P> {
         self.phrase.due(sheet, output, beat, value)
     }
 
+    // Fixes the lowest open beat of an input at what the plan has there, and hands out its
+    // order. Refused with 8, 7, 21, 22.
     pub fn order(&mut self, sheet: &[P::Value], input: usize) -> Result<Order, Refusal>
         ensures answer { λ r. ⌜ Order-answer (Value·Kind .ops) meaning need (now (self .entry) .phrase) input (now (sheet .entry)) r ⌝ }
         ensures lanes { λ r. ⌜ now (self .exit) .phrase .lanes .table ≡ ordered (now (self .entry) .phrase .lanes .table) r ⌝ }
@@ -92,6 +101,8 @@ impl<P: Plant> Playing<P> {
         self.phrase.order(sheet, input)
     }
 
+    // Gives an order back with a value at most the ordered cell, which takes it. Refused with
+    // 8, 24, 23; then the order is handed back.
     pub fn fire(
         &mut self,
         sheet: &mut [P::Value],
@@ -105,6 +116,8 @@ impl<P: Plant> Playing<P> {
         self.phrase.fire(sheet, order, value)
     }
 
+    // Gives an order back unfired: its cell becomes bottom. Refused with 8, 24; then the order
+    // is handed back.
     pub fn miss(&mut self, sheet: &mut [P::Value], order: Order) -> Result<(), Returned>
         ensures cells { λ r. ⌜ Miss-cells (Value·Kind .ops) meaning need (now (self .entry) .phrase) (now (self .exit) .phrase) order (now (sheet .entry)) (now (sheet .exit)) r ⌝ }
         ensures same { λ _. ⌜ now (self .exit) .phrase .plant ≡ now (self .entry) .phrase .plant ⌝ ∗ ⌜ now (self .exit) .phrase .horizon ≡ now (self .entry) .phrase .horizon ⌝ }
@@ -113,6 +126,7 @@ impl<P: Plant> Playing<P> {
         self.phrase.miss(sheet, order)
     }
 
+    // Writes the forward answer to the plan into the strikes. Refused with 8.
     pub fn strikes(&self, sheet: &mut [P::Value]) -> Result<(), Refusal>
         ensures cells { λ r. ⌜ Strikes-cells (Value·Kind .ops) meaning need (now (self .entry) .phrase) (now (sheet .entry)) (now (sheet .exit)) r ⌝ }
         ensures law { λ r. ⌜ Law (Value·Kind .ops) meaning need playing playing (now (self .entry) .phrase) (now (self .entry) .phrase) (strikes-act r) (now (sheet .entry)) (now (sheet .exit)) ⌝ }
@@ -120,6 +134,7 @@ impl<P: Plant> Playing<P> {
         self.phrase.strikes(sheet)
     }
 
+    // From now on only misses are taken, and strikes.
     pub fn end(self) -> Ended<P>
         ensures same { λ r. ⌜ r .phrase ≡ self .phrase ⌝ }
         ensures law { λ r. ⌜ ((s : List (P·Value)) → Law (Value·Kind .ops) meaning need playing ended (self .phrase) (r .phrase) end-act s s) ⌝ }
@@ -130,6 +145,7 @@ impl<P: Plant> Playing<P> {
 }
 
 impl<P: Plant> Ended<P> {
+    // Gives an order back unfired, as before the end.
     pub fn miss(&mut self, sheet: &mut [P::Value], order: Order) -> Result<(), Returned>
         ensures cells { λ r. ⌜ Miss-cells (Value·Kind .ops) meaning need (now (self .entry) .phrase) (now (self .exit) .phrase) order (now (sheet .entry)) (now (sheet .exit)) r ⌝ }
         ensures same { λ _. ⌜ now (self .exit) .phrase .plant ≡ now (self .entry) .phrase .plant ⌝ ∗ ⌜ now (self .exit) .phrase .horizon ≡ now (self .entry) .phrase .horizon ⌝ }
@@ -138,6 +154,7 @@ impl<P: Plant> Ended<P> {
         self.phrase.miss(sheet, order)
     }
 
+    // Writes the forward answer to the plan into the strikes. Refused with 8.
     pub fn strikes(&self, sheet: &mut [P::Value]) -> Result<(), Refusal>
         ensures cells { λ r. ⌜ Strikes-cells (Value·Kind .ops) meaning need (now (self .entry) .phrase) (now (sheet .entry)) (now (sheet .exit)) r ⌝ }
         ensures law { λ r. ⌜ Law (Value·Kind .ops) meaning need ended ended (now (self .entry) .phrase) (now (self .entry) .phrase) (strikes-act r) (now (sheet .entry)) (now (sheet .exit)) ⌝ }

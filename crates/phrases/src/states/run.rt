@@ -33,7 +33,7 @@ fn settle<T: Kind>(r: Result<(), Refusal>) -> Answer<T>
     }
 }
 
-fn spend<T: Kind>(r: Result<(), Returned>) -> Answer<T>
+pub(crate) fn spend<T: Kind>(r: Result<(), Returned>) -> Answer<T>
     ensures { λ a. ⌜ a ≡ told-back r ⌝ }
 {
     match r {

@@ -3,7 +3,8 @@ use mathlib.Core.List.{_∷_, []}
 use lib.Chars.{codes}
 use Rattle.numerals.specs.Decimals.{text-of}
 use Rattle.std.specs.Of.Vec.{vec-items}
-use Rattle.card.proofs.Pieces.{then-piece, seven-on}
+use Rattle.listing.proofs.Pieces.{then-piece}
+use Rattle.card.proofs.Pieces.{seven-on}
 use Rattle.card.proofs.cells.write_cell.Needs as need
 
 pub returns : need.returns

@@ -2,7 +2,8 @@ use mathlib.Core.Path.{_∙_}
 use mathlib.Core.List.{_∷_, []}
 use Rattle.numerals.specs.Decimals.{text-of}
 use Rattle.std.specs.Of.Vec.{vec-items}
-use Rattle.card.proofs.Pieces.{then-piece, three-on}
+use Rattle.listing.proofs.Pieces.{then-piece}
+use Rattle.card.proofs.Pieces.{three-on}
 use Rattle.card.proofs.reports.write_row.Needs as need
 
 pub returns : need.returns

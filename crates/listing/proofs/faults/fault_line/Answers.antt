@@ -4,8 +4,8 @@ use Prim.Native.Nat.{ℕ}
 use Rattle.numerals.specs.Decimals.{text-of}
 use Rattle.std.specs.Of.Vec.{vec-items}
 use Rattle.texts.specs.Faults.{name-of}
-use Rattle.card.proofs.Pieces.{then-piece}
-use Rattle.card.proofs.faults.fault_line.Needs as need
+use Rattle.listing.proofs.Pieces.{then-piece}
+use Rattle.listing.proofs.faults.fault_line.Needs as need
 
 pub returns : need.returns
 returns c =

@@ -2,7 +2,7 @@ use mathlib.Core.Path.{ap, _∙_}
 use mathlib.Core.List.{_++_, append-assoc, _∷_, []}
 use Rattle.numerals.specs.Decimals.{text-of}
 use Rattle.std.specs.Of.Vec.{vec-items}
-use Rattle.card.proofs.faults.comma_number.Needs as need
+use Rattle.listing.proofs.faults.comma_number.Needs as need
 
 pub returns : need.returns
 returns c =

@@ -3,13 +3,13 @@ ghost use mathlib.Core.List.{_∷_, _++_};
 ghost use Rattle.std.specs.Of.Vec.{vec-items};
 ghost use Rattle.std.specs.Vec.{made};
 ghost use Rattle.numerals.specs.Decimals.{text-of};
-ghost use Rattle.card.specs.FaultLines.{fault-text};
+ghost use Rattle.listing.specs.FaultLines.{fault-text};
 use numerals::write_number;
 use std::alloc::AllocError;
 use std::alloc::Global;
 use texts::Fault;
 
-fn comma_number(n: u64, out: &mut Vec<u8>) -> Result<(), AllocError>
+pub(crate) fn comma_number(n: u64, out: &mut Vec<u8>) -> Result<(), AllocError>
     ensures { λ r. ⌜ made r (λ _. vec-items (now (out .exit)) ≡ vec-items (now (out .entry)) ++ (44 ∷ text-of n)) ⌝ }
 {
     out.push(b',')?;

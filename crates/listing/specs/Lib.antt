@@ -1,0 +1,3 @@
+pub mod FaultLines
+pub mod CardLines
+pub mod BlockLines
