@@ -1,3 +1,5 @@
+#![tactic(auto)]
+
 mod series;
 
 pub use series::{Series, series_answers_in_turn};

@@ -1,3 +1,5 @@
+#![tactic(auto)]
+
 ghost use Rattle.std.specs.Prelude.{◌≡◌, ◌≤◌, min, max};
 ghost use Rattle.circuits.specs.Checks.{Checked};
 ghost use Rattle.circuits.specs.Faults.{refusal_of};

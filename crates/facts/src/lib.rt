@@ -1,3 +1,5 @@
+#![tactic(auto)]
+
 ghost use Rattle.facts.specs.Facts.{Facts};
 
 // Worked examples of the definitions, one table.

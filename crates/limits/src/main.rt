@@ -1,3 +1,5 @@
+#![tactic(auto)]
+
 // Tells the report of each net on standard input, to try both sides of every limit.
 // A line `=NAME` begins a case, `?` ends it; `*NNNNN LINE` stands for LINE so many
 // times, and a line that ends with a backslash has no end of line in the net.

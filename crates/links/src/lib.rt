@@ -1,3 +1,5 @@
+#![tactic(auto)]
+
 ghost use Rattle.std.specs.Prelude.{◌≡◌};
 ghost use Rattle.links.specs.Takes.{tokenless as is_tokenless, delayed as is_delayed, entry as is_entry, leaving as is_leaving};
 ghost use Rattle.links.specs.Tallies.{same_sort, how_many};

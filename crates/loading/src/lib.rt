@@ -1,3 +1,5 @@
+#![tactic(auto)]
+
 mod checks;
 mod copies;
 mod loads;

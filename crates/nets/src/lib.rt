@@ -1,3 +1,5 @@
+#![tactic(auto)]
+
 mod moves;
 mod net;
 mod stage;

@@ -1,3 +1,5 @@
+#![tactic(auto)]
+
 ghost use Rattle.routes.specs.Theorems.{ResponsesAreRoutes, AnswersAreForward, LatestIsBackward, AnswersSolve, CeilingsBoundSolutions};
 
 use kinds::Kind;

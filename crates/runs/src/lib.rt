@@ -1,3 +1,5 @@
+#![tactic(auto)]
+
 mod acts;
 mod laws;
 

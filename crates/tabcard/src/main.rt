@@ -1,3 +1,5 @@
+#![tactic(auto)]
+
 use loading::load;
 use printing::{card, refused};
 use std::fs;

@@ -1,3 +1,5 @@
+#![tactic(auto)]
+
 use card::report;
 use std::fs;
 use std::io::Write;

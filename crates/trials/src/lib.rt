@@ -1,3 +1,5 @@
+#![tactic(auto)]
+
 // Tests of the sums over dates, levels and channels.
 #[cfg(test)]
 mod circuits_cases;

@@ -1,3 +1,5 @@
+#![tactic(auto)]
+
 ghost use Rattle.walks.specs.Circuits.{CircuitIsNamedOnce, ShortCircuitsSuffice};
 
 use kinds::Kind;
