@@ -83,7 +83,7 @@ fn answer_number(answer: Result<(), Refusal>) -> u8
 }
 
 fn comma_value<T: CardKind>(value: T, out: &mut Vec<u8>) -> Result<(), AllocError>
-    ensures { OnOk result (out.new.items ≡ out.old.items ++ (44 ∷ text value)) }
+    ensures { OnOk result (out.new.items ≡ out.old.items ++ (44 ∷ T.CardKind.text value)) }
 {
     out.push(b',')?;
     value.write(out)?;
@@ -91,7 +91,7 @@ fn comma_value<T: CardKind>(value: T, out: &mut Vec<u8>) -> Result<(), AllocErro
 }
 
 fn write_spot<T: CardKind>(spot: Option<Spot<T>>, out: &mut Vec<u8>) -> Result<(), AllocError>
-    ensures { OnOk result (out.new.items ≡ out.old.items ++ spot_text text spot) }
+    ensures { OnOk result (out.new.items ≡ out.old.items ++ spot_text T.CardKind.text spot) }
 {
     match spot {
         Some(s) => {
@@ -110,7 +110,7 @@ fn write_event<T: CardKind>(
     spot: Option<Spot<T>>,
     answer: Result<(), Refusal>,
 ) -> Result<Vec<u8>, AllocError>
-    ensures { IfOk result (λ v. v.items ≡ event_line text event wire spot answer) }
+    ensures { IfOk result (λ v. v.items ≡ event_line T.CardKind.text event wire spot answer) }
 {
     let mut out = Vec::new(heap);
     out.push(event.letter())?;
@@ -127,7 +127,7 @@ fn write_cell<T: CardKind>(
     beat: usize,
     value: T,
 ) -> Result<Vec<u8>, AllocError>
-    ensures { IfOk result (λ v. v.items ≡ cell_line text block wire beat value) }
+    ensures { IfOk result (λ v. v.items ≡ cell_line T.CardKind.text block wire beat value) }
 {
     let mut out = Vec::new(heap);
     out.push(block.letter())?;
@@ -140,7 +140,7 @@ fn write_cell<T: CardKind>(
 impl<T: CardKind> CardLine<T> {
     // The bytes of the line, without the byte that ends it.
     pub fn bytes(self, heap: Global) -> Result<Vec<u8>, AllocError>
-        ensures { IfOk result (λ v. v.items ≡ card_line text self) }
+        ensures { IfOk result (λ v. v.items ≡ card_line T.CardKind.text self) }
     {
         match self {
             CardLine::Answered {

@@ -29,7 +29,7 @@ fn play_score<T: CardKind>(
     k: Horizon,
     score: ScoreReader<'_>,
 ) -> Result<Vec<u8>, AllocError>
-    ensures { IfOk result (λ v. Played T.Kind.ops text reading (net_of T.Kind.ops net.now.counts net.now.links.items) k.beats score.entry.text.now score.entry.at v.items) }
+    ensures { IfOk result (λ v. Played T.Kind.ops T.CardKind.text T.CardKind.reading (net_of T.Kind.ops net.now.counts net.now.links.items) k.beats score.entry.text.now score.entry.at v.items) }
 {
     let heard = read_lines(heap, score)?;
     let plant = Net::new(
@@ -51,7 +51,7 @@ fn play_net<T: CardKind>(
     net: &CheckedNet<T>,
     score: &[u8],
 ) -> Result<Vec<u8>, AllocError>
-    ensures { IfOk result (λ v. Card T.Kind.ops text reading (net_of T.Kind.ops net.now.counts net.now.links.items) score.now v.items) }
+    ensures { IfOk result (λ v. Card T.Kind.ops T.CardKind.text T.CardKind.reading (net_of T.Kind.ops net.now.counts net.now.links.items) score.now v.items) }
 {
     let mut reader = ScoreReader::new(score);
     let beats = match reader.read_beats() {

@@ -30,7 +30,7 @@ fn write_blocks<T: CardKind>(
 ) -> Result<(), AllocError>
     requires sizes { (inputs ≡ phrase.now.phrase.plant.inputs) × ((outputs ≡ phrase.now.phrase.plant.outputs) × (k ≡ phrase.now.phrase.horizon)) }
     requires room { total (meant T.Kind.ops phrase.now.phrase.plant) k.beats (net_need phrase.now.phrase.plant k.beats) ≤ length sheet.old }
-    ensures { OnOk result (out.new.items ≡ out.old.items ++ block_rows T.Kind.ops text (meant T.Kind.ops phrase.now.phrase.plant) k.beats (plan T.Kind.ops (meant T.Kind.ops phrase.now.phrase.plant) k.beats sheet.old)) }
+    ensures { OnOk result (out.new.items ≡ out.old.items ++ block_rows T.Kind.ops T.CardKind.text (meant T.Kind.ops phrase.now.phrase.plant) k.beats (plan T.Kind.ops (meant T.Kind.ops phrase.now.phrase.plant) k.beats sheet.old)) }
 {
     let beats = k.beats();
     write_block(
@@ -68,7 +68,7 @@ fn write_end<T: CardKind>(
 ) -> Result<(), AllocError>
     requires sizes { (inputs ≡ phrase.now.phrase.plant.inputs) × ((outputs ≡ phrase.now.phrase.plant.outputs) × (k ≡ phrase.now.phrase.horizon)) }
     requires room { total (meant T.Kind.ops phrase.now.phrase.plant) k.beats (net_need phrase.now.phrase.plant k.beats) ≤ length sheet.old }
-    ensures { OnOk result (out.new.items ≡ out.old.items ++ closing T.Kind.ops text (meant T.Kind.ops phrase.now.phrase.plant) k.beats end (plan T.Kind.ops (meant T.Kind.ops phrase.now.phrase.plant) k.beats sheet.old)) }
+    ensures { OnOk result (out.new.items ≡ out.old.items ++ closing T.Kind.ops T.CardKind.text (meant T.Kind.ops phrase.now.phrase.plant) k.beats end (plan T.Kind.ops (meant T.Kind.ops phrase.now.phrase.plant) k.beats sheet.old)) }
 {
     match end {
         Ok(()) => write_blocks(heap, phrase, inputs, outputs, k, sheet, out)?,
@@ -97,7 +97,7 @@ pub(crate) fn card_on<T: CardKind>(
     heard: &Heard<T>,
 ) -> Result<Vec<u8>, AllocError>
     requires { total (meant T.Kind.ops net) k.beats (net_need net k.beats) ≤ length sheet.old }
-    ensures { IfOk result (λ v. Performed T.Kind.ops text (meant T.Kind.ops net.entry) k.beats heard.now.lines.items heard.now.end v.items) }
+    ensures { IfOk result (λ v. Performed T.Kind.ops T.CardKind.text (meant T.Kind.ops net.entry) k.beats heard.now.lines.items heard.now.end v.items) }
 {
     let inputs = net.inputs();
     let outputs = net.outputs();

@@ -20,7 +20,7 @@ fn play_due<P: Plant>(
     beat: usize,
     value: P::Value,
 ) -> Act<P::Value>
-    ensures law { Law P.Value.Kind.ops meaning need playing playing phrase.now.phrase phrase.now.phrase result sheet.old sheet.new }
+    ensures law { Law P.Value.Kind.ops P.Plant.meaning P.Plant.need playing playing phrase.now.phrase phrase.now.phrase result sheet.old sheet.new }
     ensures call { result.call ≡ due output beat value }
 {
     let answer = match phrase.due(sheet, output, beat, value) {
@@ -45,7 +45,7 @@ fn play_line<P: Plant>(
 ) -> Happened<P::Value>
     ensures calls { ComesTo line (acts result) }
     ensures same { (phrase.new.phrase.plant ≡ phrase.old.phrase.plant) × (phrase.new.phrase.horizon ≡ phrase.old.phrase.horizon) }
-    ensures law { Follows P.Value.Kind.ops meaning need phrase.old.phrase phrase.new.phrase (acts result) sheet.old sheet.new }
+    ensures law { Follows P.Value.Kind.ops P.Plant.meaning P.Plant.need phrase.old.phrase phrase.new.phrase (acts result) sheet.old sheet.new }
 {
     match line {
         ScoreLine::Due {
@@ -86,7 +86,7 @@ pub(crate) fn play_lines<P: Plant>(
 ) -> Result<Vec<Act<P::Value>>, AllocError>
     ensures same { (phrase.new.phrase.plant ≡ phrase.old.phrase.plant) × (phrase.new.phrase.horizon ≡ phrase.old.phrase.horizon) }
     ensures calls { IfOk result (λ v. Plays lines.now v.items) }
-    ensures law { IfOk result (λ v. Follows P.Value.Kind.ops meaning need phrase.old.phrase phrase.new.phrase v.items sheet.old sheet.new) }
+    ensures law { IfOk result (λ v. Follows P.Value.Kind.ops P.Plant.meaning P.Plant.need phrase.old.phrase phrase.new.phrase v.items sheet.old sheet.new) }
 {
     let mut list = Vec::new(heap);
     for line in lines {

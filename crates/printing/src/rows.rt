@@ -18,7 +18,7 @@ pub(crate) fn write_line<T: CardKind>(
     line: CardLine<T>,
     out: &mut Vec<u8>,
 ) -> Result<(), AllocError>
-    ensures { OnOk result (out.new.items ≡ out.old.items ++ row (card_line text line)) }
+    ensures { OnOk result (out.new.items ≡ out.old.items ++ row (card_line T.CardKind.text line)) }
 {
     let bytes = line.bytes(heap)?;
     out.extend_from_slice(bytes.as_slice())?;
@@ -27,7 +27,7 @@ pub(crate) fn write_line<T: CardKind>(
 }
 
 fn write_act<T: CardKind>(heap: Global, act: Act<T>, out: &mut Vec<u8>) -> Result<(), AllocError>
-    ensures { OnOk result (out.new.items ≡ out.old.items ++ row_if text (act_line T.Kind.ops.bottom act)) }
+    ensures { OnOk result (out.new.items ≡ out.old.items ++ row_if T.CardKind.text (act_line T.Kind.ops.bottom act)) }
 {
     if let Some(line) = act_line(act) {
         write_line(heap, line, out)?;
@@ -41,7 +41,7 @@ pub(crate) fn write_acts<T: CardKind>(
     acts: &[Act<T>],
     out: &mut Vec<u8>,
 ) -> Result<(), AllocError>
-    ensures { OnOk result (out.new.items ≡ out.old.items ++ act_rows text T.Kind.ops.bottom acts.now) }
+    ensures { OnOk result (out.new.items ≡ out.old.items ++ act_rows T.CardKind.text T.Kind.ops.bottom acts.now) }
 {
     for act in acts {
         write_act(heap, *act, out)?;
@@ -67,7 +67,7 @@ pub(crate) fn write_block<T: CardKind>(
     out: &mut Vec<u8>,
 ) -> Result<(), AllocError>
     requires { start + count ≤ length sheet.now }
-    ensures { OnOk result (out.new.items ≡ out.old.items ++ cell_rows text block k.beats (block_at T.Kind.ops sheet.now start k.beats) count) }
+    ensures { OnOk result (out.new.items ≡ out.old.items ++ cell_rows T.CardKind.text block k.beats (block_at T.Kind.ops sheet.now start k.beats) count) }
 {
     for n in 0..count {
         let line = CardLine::Cell {

@@ -17,7 +17,7 @@ pub(crate) fn read_lines<T: CardKind>(
     heap: Global,
     mut score: ScoreReader<'_>,
 ) -> Result<Heard<T>, AllocError>
-    ensures { IfOk result (λ h. Reads reading score.entry.text.now score.entry.at h.lines.items h.end) }
+    ensures { IfOk result (λ h. Reads T.CardKind.reading score.entry.text.now score.entry.at h.lines.items h.end) }
 {
     let mut lines = Vec::new(heap);
     loop {

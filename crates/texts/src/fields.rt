@@ -96,7 +96,7 @@ pub(crate) fn count_field(line: &[u8], number: u8, most: u8) -> Result<u8, Wrong
 
 // The value in a field.
 pub(crate) fn value_field<T: CardKind>(line: &[u8], number: u8) -> Result<T, Wrong>
-    ensures { result ≡ value_at reading (fields line.now) number }
+    ensures { result ≡ value_at T.CardKind.reading (fields line.now) number }
 {
     match T::read(field(line, number)) {
         Ok(value) => Ok(value),

@@ -144,7 +144,7 @@ fn read_tokens(line: &[u8], sort: Sort) -> Result<u8, Wrong>
 
 // The link that the fields of a line give, from the left.
 fn read_link<T: CardKind>(line: &[u8], counts: Counts, sort: Sort) -> Result<Link<T>, Wrong>
-    ensures { result ≡ link_of reading counts sort (fields line.now) }
+    ensures { result ≡ link_of T.CardKind.reading counts sort (fields line.now) }
 {
     let from = index_field(line, 2, from_limit(counts, sort))?;
     let to = index_field(line, 3, to_limit(counts, sort))?;
@@ -161,7 +161,7 @@ fn read_link<T: CardKind>(line: &[u8], counts: Counts, sort: Sort) -> Result<Lin
 
 // A link's line: its letter, then the number of its fields, then each field.
 fn read_net_line<T: CardKind>(line: &[u8], counts: Counts) -> Result<Link<T>, Wrong>
-    ensures { result ≡ net_line reading counts line.now }
+    ensures { result ≡ net_line T.CardKind.reading counts line.now }
 {
     let Some(sort) = sort_by_letter(field(line, 1)) else {
         return Err(Wrong {
@@ -230,9 +230,9 @@ impl NetReader<'_> {
         table: &mut [Link<T>],
         count: &mut usize,
     ) -> Result<(), Wrong>
-        ensures result { result ≡ told (step_of reading counts self.old.text.now self.old.at (length table.old) count.old) }
-        ensures table { table.new ≡ table_after (step_of reading counts self.old.text.now self.old.at (length table.old) count.old) table.old count.old }
-        ensures count { count.new ≡ count_after (step_of reading counts self.old.text.now self.old.at (length table.old) count.old) count.old }
+        ensures result { result ≡ told (step_of T.CardKind.reading counts self.old.text.now self.old.at (length table.old) count.old) }
+        ensures table { table.new ≡ table_after (step_of T.CardKind.reading counts self.old.text.now self.old.at (length table.old) count.old) table.old count.old }
+        ensures count { count.new ≡ count_after (step_of T.CardKind.reading counts self.old.text.now self.old.at (length table.old) count.old) count.old }
         ensures position { self.new.at ≡ position_after result self.old.at (drop self.old.at.place self.old.text.now) }
         ensures within { count.old ≤ length table.old → count.new ≤ length table.old }
         ensures same { self.new.text.now ≡ self.old.text.now }
@@ -274,7 +274,7 @@ impl NetReader<'_> {
         table: &mut [Link<T>],
         count: &mut usize,
     ) -> Result<(), Fault>
-        ensures after { links_on reading counts self.old.text.now self.old.at table.old count.old ≡ record { answer = result; at = self.new.at; table = table.new; count = count.new } }
+        ensures after { links_on T.CardKind.reading counts self.old.text.now self.old.at table.old count.old ≡ record { answer = result; at = self.new.at; table = table.new; count = count.new } }
         ensures within { count.old ≤ length table.old → count.new ≤ length table.old }
         ensures same { self.new.text.now ≡ self.old.text.now }
     {
@@ -294,7 +294,7 @@ impl NetReader<'_> {
         table: &mut [Link<T>],
         count: &mut usize,
     ) -> Result<(), Fault>
-        ensures after { links_from reading counts self.old.text.now self.old.at table.old count.old ≡ record { answer = result; at = self.new.at; table = table.new; count = count.new } }
+        ensures after { links_from T.CardKind.reading counts self.old.text.now self.old.at table.old count.old ≡ record { answer = result; at = self.new.at; table = table.new; count = count.new } }
         ensures within { count.old ≤ length table.old → count.new ≤ length table.old }
         ensures same { self.new.text.now ≡ self.old.text.now }
     {

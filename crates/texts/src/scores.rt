@@ -52,7 +52,7 @@ fn fields_wanted(verb: Verb) -> usize
 
 // What the fields of a line say, from the left.
 fn read_event<T: CardKind>(line: &[u8], verb: Verb) -> Result<ScoreLine<T>, Wrong>
-    ensures { result ≡ said reading verb (fields line.now) }
+    ensures { result ≡ said T.CardKind.reading verb (fields line.now) }
 {
     let wire = index_field(line, 2, 16)?;
     match verb {
@@ -75,7 +75,7 @@ fn read_event<T: CardKind>(line: &[u8], verb: Verb) -> Result<ScoreLine<T>, Wron
 
 // A score's line: its letter, then the number of its fields, then each field.
 fn read_score_line<T: CardKind>(line: &[u8]) -> Result<ScoreLine<T>, Wrong>
-    ensures { result ≡ score_line reading line.now }
+    ensures { result ≡ score_line T.CardKind.reading line.now }
 {
     let Some(verb) = verb_by_letter(field(line, 1)) else {
         return Err(Wrong {
@@ -158,7 +158,7 @@ impl ScoreReader<'_> {
 
     // Reads the next line as one after the first.
     fn take_event<T: CardKind>(&mut self) -> Result<ScoreLine<T>, Wrong>
-        ensures result { result ≡ event_at reading self.old.text.now self.old.at }
+        ensures result { result ≡ event_at T.CardKind.reading self.old.text.now self.old.at }
         ensures position { self.new.at ≡ position_after result self.old.at (drop self.old.at.place self.old.text.now) }
         ensures same { self.new.text.now ≡ self.old.text.now }
     {
@@ -186,7 +186,7 @@ impl ScoreReader<'_> {
 
     // Reads the next line; none at the end of the text.
     pub fn next_line<T: CardKind>(&mut self) -> Result<Option<ScoreLine<T>>, Fault>
-        ensures result { result ≡ event_from reading self.old.text.now self.old.at }
+        ensures result { result ≡ event_from T.CardKind.reading self.old.text.now self.old.at }
         ensures position { self.new.at ≡ event_past result self.old.at (drop self.old.at.place self.old.text.now) }
         ensures same { self.new.text.now ≡ self.old.text.now }
     {

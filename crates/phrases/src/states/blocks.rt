@@ -12,19 +12,19 @@ use plants::{Horizon, Plant};
 // Where the blocks of a sheet lie, and their cells.
 impl<P: Plant> Phrase<P> {
     pub(crate) fn plan_start(&self) -> usize
-        ensures { (result ≡ plan_at (meaning self.now.plant).outputs (meaning self.now.plant).inputs self.now.horizon.beats) × (result ≤ 4096) }
+        ensures { (result ≡ plan_at (P.Plant.meaning self.now.plant).outputs (P.Plant.meaning self.now.plant).inputs self.now.horizon.beats) × (result ≤ 4096) }
     {
         wire_cells(self.plant.outputs(), self.horizon)
     }
 
     pub(crate) fn strikes_start(&self) -> usize
-        ensures { (result ≡ strikes_at (meaning self.now.plant).outputs (meaning self.now.plant).inputs self.now.horizon.beats) × (result ≤ 4096) }
+        ensures { (result ≡ strikes_at (P.Plant.meaning self.now.plant).outputs (P.Plant.meaning self.now.plant).inputs self.now.horizon.beats) × (result ≤ 4096) }
     {
         wire_cells(self.plant.outputs() + self.plant.inputs(), self.horizon)
     }
 
     pub(crate) fn spare_start(&self) -> usize
-        ensures { (result ≡ spare_at (meaning self.now.plant).outputs (meaning self.now.plant).inputs self.now.horizon.beats) × (result ≤ 4096) }
+        ensures { (result ≡ spare_at (P.Plant.meaning self.now.plant).outputs (P.Plant.meaning self.now.plant).inputs self.now.horizon.beats) × (result ≤ 4096) }
     {
         wire_cells(
             self.plant.outputs() + self.plant.inputs() + self.plant.outputs(),
@@ -33,7 +33,7 @@ impl<P: Plant> Phrase<P> {
     }
 
     pub(crate) fn working_start(&self) -> usize
-        ensures { (result ≡ working_at (meaning self.now.plant).outputs (meaning self.now.plant).inputs self.now.horizon.beats) × (result ≤ 4096) }
+        ensures { (result ≡ working_at (P.Plant.meaning self.now.plant).outputs (P.Plant.meaning self.now.plant).inputs self.now.horizon.beats) × (result ≤ 4096) }
     {
         wire_cells(
             self.plant.outputs() + self.plant.inputs() + self.plant.outputs() + self.plant.inputs(),
@@ -43,7 +43,7 @@ impl<P: Plant> Phrase<P> {
 
     // Whether the sheet has all the cells.
     pub(crate) fn fits(&self, sheet: &[P::Value]) -> bool
-        ensures { result ≡ room (meaning self.now.plant) self.now.horizon.beats (need self.now.plant self.now.horizon.beats) sheet.now }
+        ensures { result ≡ room (P.Plant.meaning self.now.plant) self.now.horizon.beats (P.Plant.need self.now.plant self.now.horizon.beats) sheet.now }
     {
         let blocks = self.working_start();
         let rest = self.plant.need(self.horizon);
@@ -51,7 +51,7 @@ impl<P: Plant> Phrase<P> {
     }
 
     pub(crate) fn score_place(&self, output: usize, beat: usize) -> usize
-        requires { (output < (meaning self.now.plant).outputs) × (beat < self.now.horizon.beats) }
+        requires { (output < (P.Plant.meaning self.now.plant).outputs) × (beat < self.now.horizon.beats) }
         ensures { result ≡ output * self.now.horizon.beats + beat }
     {
         wire_cells(output, self.horizon) + beat
@@ -59,31 +59,31 @@ impl<P: Plant> Phrase<P> {
 
     // The place of a plan cell, and of its cell in the spare block.
     pub(crate) fn plan_place(&self, wire: usize, beat: usize) -> usize
-        requires { (wire < (meaning self.now.plant).inputs) × (beat < self.now.horizon.beats) }
-        ensures { result ≡ plan_from (meaning self.now.plant) self.now.horizon.beats + (wire * self.now.horizon.beats + beat) }
+        requires { (wire < (P.Plant.meaning self.now.plant).inputs) × (beat < self.now.horizon.beats) }
+        ensures { result ≡ plan_from (P.Plant.meaning self.now.plant) self.now.horizon.beats + (wire * self.now.horizon.beats + beat) }
     {
         self.plan_start() + (wire_cells(wire, self.horizon) + beat)
     }
 
     fn spare_place(&self, wire: usize, beat: usize) -> usize
-        requires { (wire < (meaning self.now.plant).inputs) × (beat < self.now.horizon.beats) }
-        ensures { result ≡ spare_from (meaning self.now.plant) self.now.horizon.beats + (wire * self.now.horizon.beats + beat) }
+        requires { (wire < (P.Plant.meaning self.now.plant).inputs) × (beat < self.now.horizon.beats) }
+        ensures { result ≡ spare_from (P.Plant.meaning self.now.plant) self.now.horizon.beats + (wire * self.now.horizon.beats + beat) }
     {
         self.spare_start() + (wire_cells(wire, self.horizon) + beat)
     }
 
     pub(crate) fn plan_cell(&self, sheet: &[P::Value], wire: usize, beat: usize) -> P::Value
-        requires room { Roomy P.Value.Kind.ops meaning need self.now sheet.now }
-        requires inside { (wire < (meaning self.now.plant).inputs) × (beat < self.now.horizon.beats) }
-        ensures { result ≡ plan P.Value.Kind.ops (meaning self.now.plant) self.now.horizon.beats sheet.now wire beat }
+        requires room { Roomy P.Value.Kind.ops P.Plant.meaning P.Plant.need self.now sheet.now }
+        requires inside { (wire < (P.Plant.meaning self.now.plant).inputs) × (beat < self.now.horizon.beats) }
+        ensures { result ≡ plan P.Value.Kind.ops (P.Plant.meaning self.now.plant) self.now.horizon.beats sheet.now wire beat }
     {
         read(sheet, self.plan_place(wire, beat))
     }
 
     pub(crate) fn spare_cell(&self, sheet: &[P::Value], wire: usize, beat: usize) -> P::Value
-        requires room { Roomy P.Value.Kind.ops meaning need self.now sheet.now }
-        requires inside { (wire < (meaning self.now.plant).inputs) × (beat < self.now.horizon.beats) }
-        ensures { result ≡ spare P.Value.Kind.ops (meaning self.now.plant) self.now.horizon.beats sheet.now wire beat }
+        requires room { Roomy P.Value.Kind.ops P.Plant.meaning P.Plant.need self.now sheet.now }
+        requires inside { (wire < (P.Plant.meaning self.now.plant).inputs) × (beat < self.now.horizon.beats) }
+        ensures { result ≡ spare P.Value.Kind.ops (P.Plant.meaning self.now.plant) self.now.horizon.beats sheet.now wire beat }
     {
         read(sheet, self.spare_place(wire, beat))
     }

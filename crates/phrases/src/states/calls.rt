@@ -13,7 +13,7 @@ use plants::{Horizon, Plant};
 pub fn write<P: Plant>(plant: P, horizon: Horizon) -> Written<P>
     ensures holds { (result.phrase.plant ≡ plant) × (result.phrase.horizon ≡ horizon) }
     ensures fresh { result.phrase.lanes.table ≡ replicate 16 idle }
-    ensures law { (s : List (P.Value)) → Left P.Value.Kind.ops (meaning plant) horizon.beats (need plant horizon.beats) written [] result.phrase.lanes.table s }
+    ensures law { (s : List (P.Value)) → Left P.Value.Kind.ops (P.Plant.meaning plant) horizon.beats (P.Plant.need plant horizon.beats) written [] result.phrase.lanes.table s }
 {
     let lane = Lane {
         fixed: 0,
@@ -31,8 +31,8 @@ pub fn write<P: Plant>(plant: P, horizon: Horizon) -> Written<P>
 impl<P: Plant> Written<P> {
     // Sets score and plan to top and the strikes to bottom. Refused with 8.
     pub fn lay(&self, sheet: &mut [P::Value]) -> Result<(), Refusal>
-        ensures cells { LayCells P.Value.Kind.ops meaning need self.now.phrase sheet.old sheet.new result }
-        ensures law { Law P.Value.Kind.ops meaning need written written self.now.phrase self.now.phrase (lay_act result) sheet.old sheet.new }
+        ensures cells { LayCells P.Value.Kind.ops P.Plant.meaning P.Plant.need self.now.phrase sheet.old sheet.new result }
+        ensures law { Law P.Value.Kind.ops P.Plant.meaning P.Plant.need written written self.now.phrase self.now.phrase (lay_act result) sheet.old sheet.new }
     {
         self.phrase.lay(sheet)
     }
@@ -46,8 +46,8 @@ impl<P: Plant> Written<P> {
         beat: usize,
         value: P::Value,
     ) -> Result<(), Refusal>
-        ensures cells { DueCells P.Value.Kind.ops meaning need self.now.phrase output beat value sheet.old sheet.new result }
-        ensures law { Law P.Value.Kind.ops meaning need written written self.now.phrase self.now.phrase (due_act output beat value result) sheet.old sheet.new }
+        ensures cells { DueCells P.Value.Kind.ops P.Plant.meaning P.Plant.need self.now.phrase output beat value sheet.old sheet.new result }
+        ensures law { Law P.Value.Kind.ops P.Plant.meaning P.Plant.need written written self.now.phrase self.now.phrase (due_act output beat value result) sheet.old sheet.new }
     {
         self.phrase.due(sheet, output, beat, value)
     }
@@ -55,7 +55,7 @@ impl<P: Plant> Written<P> {
     // From now on orders are taken, and no lay.
     pub fn start(self) -> Playing<P>
         ensures same { result.phrase ≡ self.phrase }
-        ensures law { (s : List (P.Value)) → Law P.Value.Kind.ops meaning need written playing self.phrase result.phrase start_act s s }
+        ensures law { (s : List (P.Value)) → Law P.Value.Kind.ops P.Plant.meaning P.Plant.need written playing self.phrase result.phrase start_act s s }
     {
         let Written { phrase } = self;
         Playing { phrase }
@@ -73,8 +73,8 @@ impl<P: Plant> Playing<P> {
         beat: usize,
         value: P::Value,
     ) -> Result<(), Refusal>
-        ensures cells { DueCells P.Value.Kind.ops meaning need self.now.phrase output beat value sheet.old sheet.new result }
-        ensures law { Law P.Value.Kind.ops meaning need playing playing self.now.phrase self.now.phrase (due_act output beat value result) sheet.old sheet.new }
+        ensures cells { DueCells P.Value.Kind.ops P.Plant.meaning P.Plant.need self.now.phrase output beat value sheet.old sheet.new result }
+        ensures law { Law P.Value.Kind.ops P.Plant.meaning P.Plant.need playing playing self.now.phrase self.now.phrase (due_act output beat value result) sheet.old sheet.new }
     {
         self.phrase.due(sheet, output, beat, value)
     }
@@ -82,10 +82,10 @@ impl<P: Plant> Playing<P> {
     // Fixes the lowest open beat of an input at what the plan has there, and hands out its
     // order. Refused with 8, 7, 21, 22.
     pub fn order(&mut self, sheet: &[P::Value], input: usize) -> Result<Order, Refusal>
-        ensures answer { OrderAnswer P.Value.Kind.ops meaning need self.old.phrase input sheet.now result }
+        ensures answer { OrderAnswer P.Value.Kind.ops P.Plant.meaning P.Plant.need self.old.phrase input sheet.now result }
         ensures lanes { self.new.phrase.lanes.table ≡ ordered self.old.phrase.lanes.table result }
         ensures same { (self.new.phrase.plant ≡ self.old.phrase.plant) × (self.new.phrase.horizon ≡ self.old.phrase.horizon) }
-        ensures law { OrderLaw P.Value.Kind.ops meaning need playing self.old.phrase self.new.phrase input sheet.now result }
+        ensures law { OrderLaw P.Value.Kind.ops P.Plant.meaning P.Plant.need playing self.old.phrase self.new.phrase input sheet.now result }
     {
         self.phrase.order(sheet, input)
     }
@@ -98,9 +98,9 @@ impl<P: Plant> Playing<P> {
         order: Order,
         value: P::Value,
     ) -> Result<(), Returned>
-        ensures cells { FireCells P.Value.Kind.ops meaning need self.old.phrase self.new.phrase order value sheet.old sheet.new result }
+        ensures cells { FireCells P.Value.Kind.ops P.Plant.meaning P.Plant.need self.old.phrase self.new.phrase order value sheet.old sheet.new result }
         ensures same { (self.new.phrase.plant ≡ self.old.phrase.plant) × (self.new.phrase.horizon ≡ self.old.phrase.horizon) }
-        ensures law { Law P.Value.Kind.ops meaning need playing playing self.old.phrase self.new.phrase (fire_act order value result) sheet.old sheet.new }
+        ensures law { Law P.Value.Kind.ops P.Plant.meaning P.Plant.need playing playing self.old.phrase self.new.phrase (fire_act order value result) sheet.old sheet.new }
     {
         self.phrase.fire(sheet, order, value)
     }
@@ -108,17 +108,17 @@ impl<P: Plant> Playing<P> {
     // Gives an order back unfired: its cell becomes bottom. Refused with 8, 24; then the order
     // is handed back.
     pub fn miss(&mut self, sheet: &mut [P::Value], order: Order) -> Result<(), Returned>
-        ensures cells { MissCells P.Value.Kind.ops meaning need self.old.phrase self.new.phrase order sheet.old sheet.new result }
+        ensures cells { MissCells P.Value.Kind.ops P.Plant.meaning P.Plant.need self.old.phrase self.new.phrase order sheet.old sheet.new result }
         ensures same { (self.new.phrase.plant ≡ self.old.phrase.plant) × (self.new.phrase.horizon ≡ self.old.phrase.horizon) }
-        ensures law { Law P.Value.Kind.ops meaning need playing playing self.old.phrase self.new.phrase (miss_act order result) sheet.old sheet.new }
+        ensures law { Law P.Value.Kind.ops P.Plant.meaning P.Plant.need playing playing self.old.phrase self.new.phrase (miss_act order result) sheet.old sheet.new }
     {
         self.phrase.miss(sheet, order)
     }
 
     // Writes the forward answer to the plan into the strikes. Refused with 8.
     pub fn strikes(&self, sheet: &mut [P::Value]) -> Result<(), Refusal>
-        ensures cells { StrikesCells P.Value.Kind.ops meaning need self.now.phrase sheet.old sheet.new result }
-        ensures law { Law P.Value.Kind.ops meaning need playing playing self.now.phrase self.now.phrase (strikes_act result) sheet.old sheet.new }
+        ensures cells { StrikesCells P.Value.Kind.ops P.Plant.meaning P.Plant.need self.now.phrase sheet.old sheet.new result }
+        ensures law { Law P.Value.Kind.ops P.Plant.meaning P.Plant.need playing playing self.now.phrase self.now.phrase (strikes_act result) sheet.old sheet.new }
     {
         self.phrase.strikes(sheet)
     }
@@ -126,7 +126,7 @@ impl<P: Plant> Playing<P> {
     // From now on only misses are taken, and strikes.
     pub fn end(self) -> Ended<P>
         ensures same { result.phrase ≡ self.phrase }
-        ensures law { (s : List (P.Value)) → Law P.Value.Kind.ops meaning need playing ended self.phrase result.phrase end_act s s }
+        ensures law { (s : List (P.Value)) → Law P.Value.Kind.ops P.Plant.meaning P.Plant.need playing ended self.phrase result.phrase end_act s s }
     {
         let Playing { phrase } = self;
         Ended { phrase }
@@ -136,17 +136,17 @@ impl<P: Plant> Playing<P> {
 impl<P: Plant> Ended<P> {
     // Gives an order back unfired, as before the end.
     pub fn miss(&mut self, sheet: &mut [P::Value], order: Order) -> Result<(), Returned>
-        ensures cells { MissCells P.Value.Kind.ops meaning need self.old.phrase self.new.phrase order sheet.old sheet.new result }
+        ensures cells { MissCells P.Value.Kind.ops P.Plant.meaning P.Plant.need self.old.phrase self.new.phrase order sheet.old sheet.new result }
         ensures same { (self.new.phrase.plant ≡ self.old.phrase.plant) × (self.new.phrase.horizon ≡ self.old.phrase.horizon) }
-        ensures law { Law P.Value.Kind.ops meaning need ended ended self.old.phrase self.new.phrase (miss_act order result) sheet.old sheet.new }
+        ensures law { Law P.Value.Kind.ops P.Plant.meaning P.Plant.need ended ended self.old.phrase self.new.phrase (miss_act order result) sheet.old sheet.new }
     {
         self.phrase.miss(sheet, order)
     }
 
     // Writes the forward answer to the plan into the strikes. Refused with 8.
     pub fn strikes(&self, sheet: &mut [P::Value]) -> Result<(), Refusal>
-        ensures cells { StrikesCells P.Value.Kind.ops meaning need self.now.phrase sheet.old sheet.new result }
-        ensures law { Law P.Value.Kind.ops meaning need ended ended self.now.phrase self.now.phrase (strikes_act result) sheet.old sheet.new }
+        ensures cells { StrikesCells P.Value.Kind.ops P.Plant.meaning P.Plant.need self.now.phrase sheet.old sheet.new result }
+        ensures law { Law P.Value.Kind.ops P.Plant.meaning P.Plant.need ended ended self.now.phrase self.now.phrase (strikes_act result) sheet.old sheet.new }
     {
         self.phrase.strikes(sheet)
     }

@@ -19,9 +19,9 @@ impl<P: Plant> Playing<P> {
     // Takes the next order of an input and misses it.
     pub fn miss_next(&mut self, sheet: &mut [P::Value], input: usize) -> Happened<P::Value>
         ensures calls { MissesNext input (acts result) }
-        ensures cells { MissNextCells P.Value.Kind.ops meaning need self.old.phrase self.new.phrase input sheet.old sheet.new (acts result) }
+        ensures cells { MissNextCells P.Value.Kind.ops P.Plant.meaning P.Plant.need self.old.phrase self.new.phrase input sheet.old sheet.new (acts result) }
         ensures same { (self.new.phrase.plant ≡ self.old.phrase.plant) × (self.new.phrase.horizon ≡ self.old.phrase.horizon) }
-        ensures law { Follows P.Value.Kind.ops meaning need self.old.phrase self.new.phrase (acts result) sheet.old sheet.new }
+        ensures law { Follows P.Value.Kind.ops P.Plant.meaning P.Plant.need self.old.phrase self.new.phrase (acts result) sheet.old sheet.new }
     {
         let call = Call::Order { input };
         match self.order(sheet, input) {
@@ -55,9 +55,9 @@ impl<P: Plant> Playing<P> {
         value: P::Value,
     ) -> Happened<P::Value>
         ensures calls { FiresNext input value (acts result) }
-        ensures cells { FireNextCells P.Value.Kind.ops meaning need self.old.phrase self.new.phrase input value sheet.old sheet.new (acts result) }
+        ensures cells { FireNextCells P.Value.Kind.ops P.Plant.meaning P.Plant.need self.old.phrase self.new.phrase input value sheet.old sheet.new (acts result) }
         ensures same { (self.new.phrase.plant ≡ self.old.phrase.plant) × (self.new.phrase.horizon ≡ self.old.phrase.horizon) }
-        ensures law { Follows P.Value.Kind.ops meaning need self.old.phrase self.new.phrase (acts result) sheet.old sheet.new }
+        ensures law { Follows P.Value.Kind.ops P.Plant.meaning P.Plant.need self.old.phrase self.new.phrase (acts result) sheet.old sheet.new }
     {
         let call = Call::Order { input };
         let order = match self.order(sheet, input) {

@@ -40,7 +40,7 @@ pub(crate) fn spend<T: Kind>(r: Result<(), Returned>) -> Answer<T>
 // Takes an order and tells its beat and the plan value that it found.
 fn take_order<P: Plant>(p: &mut Playing<P>, sheet: &[P::Value], input: usize) -> Answer<P::Value>
     ensures same { (p.new.phrase.plant ≡ p.old.phrase.plant) × (p.new.phrase.horizon ≡ p.old.phrase.horizon) }
-    ensures law { Law P.Value.Kind.ops meaning need playing playing p.old.phrase p.new.phrase (record { call = order_call input; answer = result }) sheet.now sheet.now }
+    ensures law { Law P.Value.Kind.ops P.Plant.meaning P.Plant.need playing playing p.old.phrase p.new.phrase (record { call = order_call input; answer = result }) sheet.now sheet.now }
 {
     match p.order(sheet, input) {
         Ok(order) => {
@@ -57,7 +57,7 @@ fn advance_written<P: Plant>(
     sheet: &mut [P::Value],
     call: Call<P::Value>,
 ) -> (Phase<P>, Answer<P::Value>)
-    ensures { Advanced P.Value.Kind.ops meaning need (at_written w) call result.0 result.1 sheet.old sheet.new }
+    ensures { Advanced P.Value.Kind.ops P.Plant.meaning P.Plant.need (at_written w) call result.0 result.1 sheet.old sheet.new }
 {
     match call {
         Call::Lay => {
@@ -82,7 +82,7 @@ fn advance_playing<P: Plant>(
     sheet: &mut [P::Value],
     call: Call<P::Value>,
 ) -> (Phase<P>, Answer<P::Value>)
-    ensures { Advanced P.Value.Kind.ops meaning need (at_playing p) call result.0 result.1 sheet.old sheet.new }
+    ensures { Advanced P.Value.Kind.ops P.Plant.meaning P.Plant.need (at_playing p) call result.0 result.1 sheet.old sheet.new }
 {
     let mut p = p;
     match call {
@@ -120,7 +120,7 @@ fn advance_ended<P: Plant>(
     sheet: &mut [P::Value],
     call: Call<P::Value>,
 ) -> (Phase<P>, Answer<P::Value>)
-    ensures { Advanced P.Value.Kind.ops meaning need (at_ended e) call result.0 result.1 sheet.old sheet.new }
+    ensures { Advanced P.Value.Kind.ops P.Plant.meaning P.Plant.need (at_ended e) call result.0 result.1 sheet.old sheet.new }
 {
     let mut e = e;
     match call {
@@ -141,7 +141,7 @@ fn advance<P: Plant>(
     sheet: &mut [P::Value],
     call: Call<P::Value>,
 ) -> (Phase<P>, Answer<P::Value>)
-    ensures { Advanced P.Value.Kind.ops meaning need phase call result.0 result.1 sheet.old sheet.new }
+    ensures { Advanced P.Value.Kind.ops P.Plant.meaning P.Plant.need phase call result.0 result.1 sheet.old sheet.new }
 {
     match phase {
         Phase::Written(w) => advance_written(w, sheet, call),
@@ -156,8 +156,8 @@ fn play_on<P: Plant>(
     sheet: &mut [P::Value],
     acts: &mut [Act<P::Value>],
 ) -> Phase<P>
-    ensures run { PlayedFrom P.Value.Kind.ops meaning need (at_written phrase) result acts.new sheet.old sheet.new }
-    ensures law { LeftOf P.Value.Kind.ops meaning need (at_written phrase) result (played acts.new []) sheet.new }
+    ensures run { PlayedFrom P.Value.Kind.ops P.Plant.meaning P.Plant.need (at_written phrase) result acts.new sheet.old sheet.new }
+    ensures law { LeftOf P.Value.Kind.ops P.Plant.meaning P.Plant.need (at_written phrase) result (played acts.new []) sheet.new }
     ensures asked { calls acts.new ≡ calls acts.old }
 {
     let mut phase = Phase::Written(phrase);
@@ -243,8 +243,8 @@ pub fn perform<P: Plant>(
     sheet: &mut [P::Value],
     acts: &mut [Act<P::Value>],
 ) -> Performance<P>
-    ensures run { PlayedFrom P.Value.Kind.ops meaning need (at_written phrase) result.phase acts.new sheet.old sheet.new }
-    ensures law { LeftOf P.Value.Kind.ops meaning need (at_written phrase) result.phase (played acts.new []) sheet.new }
+    ensures run { PlayedFrom P.Value.Kind.ops P.Plant.meaning P.Plant.need (at_written phrase) result.phase acts.new sheet.old sheet.new }
+    ensures law { LeftOf P.Value.Kind.ops P.Plant.meaning P.Plant.need (at_written phrase) result.phase (played acts.new []) sheet.new }
     ensures asked { calls acts.new ≡ calls acts.old }
     ensures orders { result.orders ≡ orders_out (table_of result.phase) }
 {

@@ -14,8 +14,8 @@ use plants::{Horizon, Places, Plant, fill};
 impl<P: Plant> Phrase<P> {
     // Writes the ceiling of the score into the spare block.
     fn climb(&self, sheet: &mut [P::Value])
-        requires { Roomy P.Value.Kind.ops meaning need self.now sheet.old }
-        ensures { Climbs P.Value.Kind.ops meaning need self.now sheet.old sheet.new }
+        requires { Roomy P.Value.Kind.ops P.Plant.meaning P.Plant.need self.now sheet.old }
+        ensures { Climbs P.Value.Kind.ops P.Plant.meaning P.Plant.need self.now sheet.old sheet.new }
     {
         let at = Places {
             input: self.spare_start(),
@@ -27,9 +27,9 @@ impl<P: Plant> Phrase<P> {
 
     // Whether a plan cell is open, or at most its cell in the spare block.
     fn holds_at(&self, sheet: &[P::Value], wire: usize, beat: usize) -> bool
-        requires room { Roomy P.Value.Kind.ops meaning need self.now sheet.now }
-        requires inside { (wire < (meaning self.now.plant).inputs) × (beat < self.now.horizon.beats) }
-        ensures { Decides result (beat < fixed_in self.now wire → AtMost P.Value.Kind.ops (plan P.Value.Kind.ops (meaning self.now.plant) self.now.horizon.beats sheet.now wire beat) (spare P.Value.Kind.ops (meaning self.now.plant) self.now.horizon.beats sheet.now wire beat)) }
+        requires room { Roomy P.Value.Kind.ops P.Plant.meaning P.Plant.need self.now sheet.now }
+        requires inside { (wire < (P.Plant.meaning self.now.plant).inputs) × (beat < self.now.horizon.beats) }
+        ensures { Decides result (beat < fixed_in self.now wire → AtMost P.Value.Kind.ops (plan P.Value.Kind.ops (P.Plant.meaning self.now.plant) self.now.horizon.beats sheet.now wire beat) (spare P.Value.Kind.ops (P.Plant.meaning self.now.plant) self.now.horizon.beats sheet.now wire beat)) }
     {
         if beat >= self.lanes.table[wire].fixed {
             return true;
@@ -40,8 +40,8 @@ impl<P: Plant> Phrase<P> {
 
     // Whether every fixed plan cell is at most its cell in the spare block.
     fn holds(&self, sheet: &[P::Value]) -> bool
-        requires { Roomy P.Value.Kind.ops meaning need self.now sheet.now }
-        ensures { Decides result (Holds P.Value.Kind.ops (meaning self.now.plant) (fixed_in self.now) (plan P.Value.Kind.ops (meaning self.now.plant) self.now.horizon.beats sheet.now) (spare P.Value.Kind.ops (meaning self.now.plant) self.now.horizon.beats sheet.now)) }
+        requires { Roomy P.Value.Kind.ops P.Plant.meaning P.Plant.need self.now sheet.now }
+        ensures { Decides result (Holds P.Value.Kind.ops (P.Plant.meaning self.now.plant) (fixed_in self.now) (plan P.Value.Kind.ops (P.Plant.meaning self.now.plant) self.now.horizon.beats sheet.now) (spare P.Value.Kind.ops (P.Plant.meaning self.now.plant) self.now.horizon.beats sheet.now)) }
     {
         for n in 0..wire_cells(self.plant.inputs(), self.horizon) {
             if !self.holds_at(sheet, wire_of(n, self.horizon), beat_of(n, self.horizon)) {
@@ -53,9 +53,9 @@ impl<P: Plant> Phrase<P> {
 
     // What a plan cell is to hold: a fixed one as it is, an open one what stands in the spare block.
     fn mixed_at(&self, sheet: &[P::Value], wire: usize, beat: usize) -> P::Value
-        requires room { Roomy P.Value.Kind.ops meaning need self.now sheet.now }
-        requires inside { (wire < (meaning self.now.plant).inputs) × (beat < self.now.horizon.beats) }
-        ensures { result ≡ mixed (fixed_in self.now) (plan P.Value.Kind.ops (meaning self.now.plant) self.now.horizon.beats sheet.now) (spare P.Value.Kind.ops (meaning self.now.plant) self.now.horizon.beats sheet.now) wire beat }
+        requires room { Roomy P.Value.Kind.ops P.Plant.meaning P.Plant.need self.now sheet.now }
+        requires inside { (wire < (P.Plant.meaning self.now.plant).inputs) × (beat < self.now.horizon.beats) }
+        ensures { result ≡ mixed (fixed_in self.now) (plan P.Value.Kind.ops (P.Plant.meaning self.now.plant) self.now.horizon.beats sheet.now) (spare P.Value.Kind.ops (P.Plant.meaning self.now.plant) self.now.horizon.beats sheet.now) wire beat }
     {
         if beat < self.lanes.table[wire].fixed {
             self.plan_cell(sheet, wire, beat)
@@ -66,8 +66,8 @@ impl<P: Plant> Phrase<P> {
 
     // Copies the open cells of the plan from the spare block.
     fn adopt(&self, sheet: &mut [P::Value])
-        requires { Roomy P.Value.Kind.ops meaning need self.now sheet.old }
-        ensures { Adopts P.Value.Kind.ops meaning need self.now sheet.old sheet.new }
+        requires { Roomy P.Value.Kind.ops P.Plant.meaning P.Plant.need self.now sheet.old }
+        ensures { Adopts P.Value.Kind.ops P.Plant.meaning P.Plant.need self.now sheet.old sheet.new }
     {
         let start = self.plan_start();
         for n in 0..wire_cells(self.plant.inputs(), self.horizon) {
@@ -77,7 +77,7 @@ impl<P: Plant> Phrase<P> {
     }
 
     pub(crate) fn lay(&self, sheet: &mut [P::Value]) -> Result<(), Refusal>
-        ensures { LayCells P.Value.Kind.ops meaning need self.now sheet.old sheet.new result }
+        ensures { LayCells P.Value.Kind.ops P.Plant.meaning P.Plant.need self.now sheet.old sheet.new result }
     {
         if !self.fits(sheet) {
             return Err(Refusal::Short);
@@ -89,7 +89,7 @@ impl<P: Plant> Phrase<P> {
     }
 
     pub(crate) fn strikes(&self, sheet: &mut [P::Value]) -> Result<(), Refusal>
-        ensures { StrikesCells P.Value.Kind.ops meaning need self.now sheet.old sheet.new result }
+        ensures { StrikesCells P.Value.Kind.ops P.Plant.meaning P.Plant.need self.now sheet.old sheet.new result }
     {
         if !self.fits(sheet) {
             return Err(Refusal::Short);
@@ -110,7 +110,7 @@ impl<P: Plant> Phrase<P> {
         beat: usize,
         value: P::Value,
     ) -> Result<(), Refusal>
-        ensures { DueCells P.Value.Kind.ops meaning need self.now output beat value sheet.old sheet.new result }
+        ensures { DueCells P.Value.Kind.ops P.Plant.meaning P.Plant.need self.now output beat value sheet.old sheet.new result }
     {
         if !self.fits(sheet) {
             return Err(Refusal::Short);
@@ -131,7 +131,7 @@ impl<P: Plant> Phrase<P> {
     }
 
     pub(crate) fn order(&mut self, sheet: &[P::Value], input: usize) -> Result<Order, Refusal>
-        ensures answer { OrderAnswer P.Value.Kind.ops meaning need self.old input sheet.now result }
+        ensures answer { OrderAnswer P.Value.Kind.ops P.Plant.meaning P.Plant.need self.old input sheet.now result }
         ensures lanes { self.new.lanes.table ≡ ordered self.old.lanes.table result }
         ensures same { (self.new.plant ≡ self.old.plant) × (self.new.horizon ≡ self.old.horizon) }
     {
@@ -153,7 +153,7 @@ impl<P: Plant> Phrase<P> {
 
     // Whether this order is out here.
     fn is_out(&self, order: &Order) -> bool
-        ensures { result ≡ is_out (meaning self.now.plant).inputs self.now.lanes.table order.now }
+        ensures { result ≡ is_out (P.Plant.meaning self.now.plant).inputs self.now.lanes.table order.now }
     {
         if order.input >= self.plant.inputs() {
             return false;
@@ -168,7 +168,7 @@ impl<P: Plant> Phrase<P> {
         order: Order,
         value: P::Value,
     ) -> Result<(), Returned>
-        ensures cells { FireCells P.Value.Kind.ops meaning need self.old self.new order value sheet.old sheet.new result }
+        ensures cells { FireCells P.Value.Kind.ops P.Plant.meaning P.Plant.need self.old self.new order value sheet.old sheet.new result }
         ensures same { (self.new.plant ≡ self.old.plant) × (self.new.horizon ≡ self.old.horizon) }
     {
         if !self.fits(sheet) {
@@ -197,7 +197,7 @@ impl<P: Plant> Phrase<P> {
 
     // A miss is a firing of bottom, which is never too high.
     pub(crate) fn miss(&mut self, sheet: &mut [P::Value], order: Order) -> Result<(), Returned>
-        ensures cells { MissCells P.Value.Kind.ops meaning need self.old self.new order sheet.old sheet.new result }
+        ensures cells { MissCells P.Value.Kind.ops P.Plant.meaning P.Plant.need self.old self.new order sheet.old sheet.new result }
         ensures same { (self.new.plant ≡ self.old.plant) × (self.new.horizon ≡ self.old.horizon) }
     {
         self.fire(sheet, order, P::Value::bottom())

@@ -21,7 +21,7 @@ pub put_cell-requires : goal.put_cell-requires
 put_cell-requires g c = inside g (goal.at.put_cell-requires g c).After-plan_place-at
 
 pub invariant_of-self : goal.invariant_of-self
-invariant_of-self g c = (
-  subst (λ t. (i : ℕ) → i < 16 → (lane_at t i).fixed ≤ c.args.self.now.horizon.beats) (sym c.take_back.ensures) (back_within _ _ c.args.order c.args.self.now.within),
-  (ap length c.take_back.ensures ∙ simp length-set c.args.self.now.sixteen, tt),
-)
+invariant_of-self g c = record {
+  within = subst (λ t. (i : ℕ) → i < 16 → (lane_at t i).fixed ≤ c.args.self.now.horizon.beats) (sym c.take_back.ensures) (back_within _ _ c.args.order c.args.self.now.within);
+  sixteen = ap length c.take_back.ensures ∙ simp length-set c.args.self.now.sixteen;
+}
