@@ -19,7 +19,7 @@ fn write_cell<T: CardKind>(
     value: T,
     out: &mut Vec<u8>,
 ) -> Result<(), AllocError>
-    ensures { OnOk result (out.new.items ≡ out.old.items ++ cell_row text wire beat value) }
+    ensures { OnOk result (out.new.items ≡ out.old.items ++ cell_row T.CardKind.text wire beat value) }
 {
     out.extend_from_slice(b"output ")?;
     write_number(wire, out)?;
@@ -40,7 +40,7 @@ pub(crate) fn write_cells<T: CardKind>(
     out: &mut Vec<u8>,
 ) -> Result<(), AllocError>
     requires { (start + count ≤ length sheet.now) × (0 < beats) }
-    ensures { OnOk result (out.new.items ≡ out.old.items ++ cell_rows text beats (cell_at T.Kind.ops sheet.now start) count) }
+    ensures { OnOk result (out.new.items ≡ out.old.items ++ cell_rows T.CardKind.text beats (cell_at T.Kind.ops sheet.now start) count) }
 {
     for n in 0..count {
         let value = read(sheet, start + n);

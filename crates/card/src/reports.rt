@@ -70,7 +70,7 @@ fn judge<T: CardKind>(
     header: Header,
     links: &[Link<T>],
 ) -> Result<Vec<u8>, AllocError>
-    ensures { IfOk result (λ v. Judged T.Kind.ops text header links.now v.items) }
+    ensures { IfOk result (λ v. Judged T.Kind.ops T.CardKind.text header links.now v.items) }
 {
     if passes(heap, links, header.counts.transitions as usize)? {
         let mut out = words(heap, header, links)?;
@@ -97,7 +97,7 @@ fn judge_first<T: CardKind>(
     count: usize,
 ) -> Result<Vec<u8>, AllocError>
     requires { count ≤ length table.now }
-    ensures { IfOk result (λ v. Judged T.Kind.ops text header (take count table.now) v.items) }
+    ensures { IfOk result (λ v. Judged T.Kind.ops T.CardKind.text header (take count table.now) v.items) }
 {
     let out = judge(heap, header, &table[0..count])?;
     Ok(out)
@@ -110,7 +110,7 @@ fn describe<T: CardKind>(
     header: Header,
     table: &mut [Link<T>],
 ) -> Result<Vec<u8>, AllocError>
-    ensures { IfOk result (λ v. Described T.Kind.ops text reading header reader.entry.text.now reader.entry.at table.old v.items) }
+    ensures { IfOk result (λ v. Described T.Kind.ops T.CardKind.text T.CardKind.reading header reader.entry.text.now reader.entry.at table.old v.items) }
 {
     let mut count = 0;
     match reader.read_links(header.counts, table, &mut count) {
@@ -144,7 +144,7 @@ fn describe_as<T: CardKind>(
     reader: NetReader<'_>,
     header: Header,
 ) -> Result<Vec<u8>, AllocError>
-    ensures { IfOk result (λ v. Described T.Kind.ops text reading header reader.entry.text.now reader.entry.at (copies 320 (blank T.Kind.ops)) v.items) }
+    ensures { IfOk result (λ v. Described T.Kind.ops T.CardKind.text T.CardKind.reading header reader.entry.text.now reader.entry.at (copies 320 (blank T.Kind.ops)) v.items) }
 {
     let mut table = copies_of(heap, 320, blank_link::<T>())?;
     let out = describe(heap, reader, header, table.as_mut_slice())?;

@@ -47,7 +47,7 @@ fn respond<T: CardKind>(
     out: &mut Vec<u8>,
 ) -> Result<(), AllocError>
     requires { net.now.inputs * k.beats + net.now.outputs * k.beats + net_need net.now k.beats ≤ length sheet.old }
-    ensures { OnOk result (out.new.items ≡ out.old.items ++ told_responses T.Kind.ops text (meant T.Kind.ops net.now) k.beats) }
+    ensures { OnOk result (out.new.items ≡ out.old.items ++ told_responses T.Kind.ops T.CardKind.text (meant T.Kind.ops net.now) k.beats) }
 {
     let read = net.inputs() * k.beats();
     let written = net.outputs() * k.beats();
@@ -72,7 +72,7 @@ pub(crate) fn write_responses<T: CardKind>(
     links: &[Link<T>],
     out: &mut Vec<u8>,
 ) -> Result<(), AllocError>
-    ensures { OnOk result (out.new.items ≡ out.old.items ++ response_rows T.Kind.ops text counts links.now) }
+    ensures { OnOk result (out.new.items ≡ out.old.items ++ response_rows T.Kind.ops T.CardKind.text counts links.now) }
 {
     let Ok(k) = Horizon::new(4) else {
         return Ok(());

@@ -7,4 +7,4 @@ loop-made-init g c = c.new-all.ensures.items ∙ sym (no_copies c.args.value)
 
 pub loop-made-preserved : goal.loop-made-preserved
 loop-made-preserved g c =
-    c.in_ok-push.ensures.items ∙ ap (λ xs. xs ++ (c.args.value ∷ [])) c.loop-made.invariant ∙ one_more c.loop-made.-made c.args.value
+    c.in_ok-push.ensures.items ∙ ap (λ xs. xs ++ (c.args.value ∷ [])) c.loop-made.invariant ∙ one_more c.loop-made._made c.args.value

@@ -3,4 +3,4 @@ use Rattle.loading.specs.Copies.{copies}
 use Rattle.loading.proofs.copies.copies_of.Given as goal
 
 abbrev pub invariant-loop-made : goal.invariant-loop-made
-invariant-loop-made g l = vec_items l.all ≡ copies l.-made l.value
+invariant-loop-made g l = vec_items l.all ≡ copies l._made l.value
