@@ -10,10 +10,10 @@ use std::test::Fail;
 const MARK: u8 = 200;
 
 // The list begins with the named transitions, and its other bytes are marks.
-fn begins(rt: &impl Abort, list: &[u8], named: &[u8]) -> Result<(), Fail> {
-    assert!(rt; named.len() <= list.len());
+fn begins(rt: &impl Abort, list: &[u8], named: &[u8], case: &str) -> Result<(), Fail> {
+    assert!(rt; named.len() <= list.len(), "{case}");
     for (i, byte) in list.iter().enumerate() {
-        assert_eq!(rt; *byte, named.get(i).copied().unwrap_or(MARK));
+        assert_eq!(rt; *byte, named.get(i).copied().unwrap_or(MARK), "{case}");
     }
     Ok(())
 }
@@ -26,14 +26,16 @@ fn gives<T: Kind>(
     transitions: usize,
     wanted: Result<(), CircuitFault>,
     named: &[u8],
+    case: &str,
 ) -> Result<(), Fail> {
     let mut cells = copies_of(heap, 8192, T::top())?;
     let mut list = [MARK; 64];
     assert_eq!(rt;
         check_circuits(links, transitions, cells.as_mut_slice(), &mut list),
-        wanted
+        wanted,
+        "{case}"
     );
-    begins(rt, &list, named)
+    begins(rt, &list, named, case)
 }
 
 fn accepts<T: Kind>(
@@ -41,8 +43,9 @@ fn accepts<T: Kind>(
     heap: Global,
     links: &[Link<T>],
     transitions: usize,
+    case: &str,
 ) -> Result<(), Fail> {
-    gives(rt, heap, links, transitions, Ok(()), &[])
+    gives(rt, heap, links, transitions, Ok(()), &[], case)
 }
 
 fn refuses<T: Kind>(
@@ -52,9 +55,10 @@ fn refuses<T: Kind>(
     transitions: usize,
     start: usize,
     named: &[u8],
+    case: &str,
 ) -> Result<(), Fail> {
     let wanted = Err(CircuitFault::Circuit(start, named.len()));
-    gives(rt, heap, links, transitions, wanted, named)
+    gives(rt, heap, links, transitions, wanted, named, case)
 }
 
 #[test]
@@ -69,13 +73,27 @@ fn two_places(rt: HostRuntime) -> Result<(), Fail> {
         2,
         0,
         &[0, 1],
-    )
-    .note("gain 30")?;
-    accepts(&rt, heap, &[place(0, 1, 0, zero), place(1, 0, 0, zero)], 2).note("gain 0")?;
-    accepts(&rt, heap, &[place(0, 1, 1, some), place(1, 0, 0, zero)], 2).note(
+        "gain 30",
+    )?;
+    accepts(
+        &rt,
+        heap,
+        &[place(0, 1, 0, zero), place(1, 0, 0, zero)],
+        2,
+        "gain 0",
+    )?;
+    accepts(
+        &rt,
+        heap,
+        &[place(0, 1, 1, some), place(1, 0, 0, zero)],
+        2,
         "a token on the first",
     )?;
-    accepts(&rt, heap, &[place(0, 1, 0, some), place(1, 0, 1, zero)], 2).note(
+    accepts(
+        &rt,
+        heap,
+        &[place(0, 1, 0, some), place(1, 0, 1, zero)],
+        2,
         "a token on the second",
     )
 }
@@ -83,10 +101,10 @@ fn two_places(rt: HostRuntime) -> Result<(), Fail> {
 #[test]
 fn lone_loops(rt: HostRuntime) -> Result<(), Fail> {
     let heap = rt.alloc();
-    refuses(&rt, heap, &[place(3, 3, 0, date(1))], 5, 3, &[3]).note("1 tick")?;
-    accepts(&rt, heap, &[place(3, 3, 0, date(0))], 5).note("0 ticks")?;
-    refuses(&rt, heap, &[place(3, 3, 0, Date::Open)], 5, 3, &[3]).note("open")?;
-    accepts(&rt, heap, &[place(3, 3, 0, Date::Never)], 5).note("never")
+    refuses(&rt, heap, &[place(3, 3, 0, date(1))], 5, 3, &[3], "1 tick")?;
+    accepts(&rt, heap, &[place(3, 3, 0, date(0))], 5, "0 ticks")?;
+    refuses(&rt, heap, &[place(3, 3, 0, Date::Open)], 5, 3, &[3], "open")?;
+    accepts(&rt, heap, &[place(3, 3, 0, Date::Never)], 5, "never")
 }
 
 #[test]
@@ -99,20 +117,28 @@ fn which_is_named(rt: HostRuntime) -> Result<(), Fail> {
         place(0, 1, 0, five),
         place(1, 0, 0, zero),
     ];
-    refuses(&rt, heap, &parallel, 2, 0, &[0, 1]).note("parallel places")?;
+    refuses(&rt, heap, &parallel, 2, 0, &[0, 1], "parallel places")?;
     let turned = [
         place(0, 1, 0, five),
         place(0, 1, 0, zero),
         place(1, 0, 0, zero),
     ];
-    refuses(&rt, heap, &turned, 2, 0, &[0, 1]).note("parallel places, the other way round")?;
+    refuses(
+        &rt,
+        heap,
+        &turned,
+        2,
+        0,
+        &[0, 1],
+        "parallel places, the other way round",
+    )?;
     let equals = [
         place(2, 3, 0, five),
         place(3, 2, 0, zero),
         place(0, 1, 0, zero),
         place(1, 0, 0, five),
     ];
-    refuses(&rt, heap, &equals, 4, 0, &[0, 1]).note("two of one length")?;
+    refuses(&rt, heap, &equals, 4, 0, &[0, 1], "two of one length")?;
     let lengths = [
         place(0, 1, 0, five),
         place(1, 2, 0, zero),
@@ -120,7 +146,7 @@ fn which_is_named(rt: HostRuntime) -> Result<(), Fail> {
         place(5, 4, 0, zero),
         place(4, 5, 0, five),
     ];
-    refuses(&rt, heap, &lengths, 6, 4, &[4, 5]).note("the shorter one")?;
+    refuses(&rt, heap, &lengths, 6, 4, &[4, 5], "the shorter one")?;
     let branches = [
         place(0, 3, 0, five),
         place(3, 1, 0, zero),
@@ -128,7 +154,7 @@ fn which_is_named(rt: HostRuntime) -> Result<(), Fail> {
         place(2, 1, 0, zero),
         place(1, 0, 0, zero),
     ];
-    refuses(&rt, heap, &branches, 4, 0, &[0, 2, 1]).note("two with one start")
+    refuses(&rt, heap, &branches, 4, 0, &[0, 2, 1], "two with one start")
 }
 
 // A ring of 64 tokenless places, all of 0 ticks but the one out of transition 17.
@@ -150,10 +176,18 @@ fn rings(rt: HostRuntime) -> Result<(), Fail> {
     for transition in 0u8..64 {
         all.push(transition)?;
     }
-    refuses(&rt, heap, faulty.as_slice(), 64, 0, all.as_slice()).note("gain 1")?;
-    accepts(&rt, heap, faulty.as_slice(), 63).note("a transition less")?;
+    refuses(
+        &rt,
+        heap,
+        faulty.as_slice(),
+        64,
+        0,
+        all.as_slice(),
+        "gain 1",
+    )?;
+    accepts(&rt, heap, faulty.as_slice(), 63, "a transition less")?;
     let even = ring(heap, date(0))?;
-    accepts(&rt, heap, even.as_slice(), 64).note("gain 0")
+    accepts(&rt, heap, even.as_slice(), 64, "gain 0")
 }
 
 #[test]
@@ -161,13 +195,33 @@ fn counts(rt: HostRuntime) -> Result<(), Fail> {
     let heap = rt.alloc();
     let one = date(1);
     let outer = [place(0, 2, 0, one), place(2, 0, 0, one)];
-    accepts(&rt, heap, &outer, 2).note("a link beyond the count")?;
-    refuses(&rt, heap, &outer, 3, 0, &[0, 2]).note("a link within the count")?;
+    accepts(&rt, heap, &outer, 2, "a link beyond the count")?;
+    refuses(&rt, heap, &outer, 3, 0, &[0, 2], "a link within the count")?;
     let loops = [place(1, 1, 0, one), place(0, 0, 0, one)];
-    refuses(&rt, heap, &loops, 0, 0, &[0]).note("0 is 1, both loops")?;
-    accepts(&rt, heap, &[place(1, 1, 0, one)], 0).note("0 is 1, the outer loop")?;
-    refuses(&rt, heap, &[place(63, 63, 0, one)], 65, 63, &[63]).note("65 is 64")?;
-    accepts(&rt, heap, &[place(64, 64, 0, one)], 65).note("65 is 64, the outer loop")
+    refuses(&rt, heap, &loops, 0, 0, &[0], "0 is 1, both loops")?;
+    accepts(
+        &rt,
+        heap,
+        &[place(1, 1, 0, one)],
+        0,
+        "0 is 1, the outer loop",
+    )?;
+    refuses(
+        &rt,
+        heap,
+        &[place(63, 63, 0, one)],
+        65,
+        63,
+        &[63],
+        "65 is 64",
+    )?;
+    accepts(
+        &rt,
+        heap,
+        &[place(64, 64, 0, one)],
+        65,
+        "65 is 64, the outer loop",
+    )
 }
 
 // A check of n transitions, with a loop of this gain at transition 0, has so many cells and
@@ -181,6 +235,7 @@ fn measures(
     room: usize,
     kept: usize,
     wanted: Result<(), CircuitFault>,
+    case: &str,
 ) -> Result<(), Fail> {
     let mark = date(77);
     let links = [place(0, 0, 0, gain)];
@@ -188,14 +243,15 @@ fn measures(
     let mut list = copies_of(heap, room, MARK)?;
     assert_eq!(rt;
         check_circuits(&links, n, sheet.as_mut_slice(), list.as_mut_slice()),
-        wanted
+        wanted,
+        "{case}"
     );
     for cell in sheet.as_slice().iter().skip(kept) {
-        assert_eq!(rt; *cell, mark);
+        assert_eq!(rt; *cell, mark, "{case}");
     }
     match wanted {
-        Err(CircuitFault::Circuit(_, _)) => begins(rt, list.as_slice(), &[0]),
-        _ => begins(rt, list.as_slice(), &[]),
+        Err(CircuitFault::Circuit(_, _)) => begins(rt, list.as_slice(), &[0], case),
+        _ => begins(rt, list.as_slice(), &[], case),
     }
 }
 
@@ -206,17 +262,67 @@ fn space(rt: HostRuntime) -> Result<(), Fail> {
     let one = date(1);
     let named = Err(CircuitFault::Circuit(0, 1));
     let short = Err(CircuitFault::Short);
-    measures(&rt, heap, one, 2, 8, 64, 8, named).note("just enough")?;
-    measures(&rt, heap, one, 2, 7, 64, 0, short).note("a cell short")?;
-    measures(&rt, heap, one, 2, 8, 63, 0, short).note("a byte short")?;
-    measures(&rt, heap, one, 2, 0, 0, 0, short).note("nothing")?;
-    measures(&rt, heap, one, 2, 12, 70, 8, named).note("more than enough, refused")?;
-    measures(&rt, heap, zero, 2, 12, 70, 8, Ok(())).note("more than enough, accepted")?;
-    measures(&rt, heap, zero, 2, 7, 64, 0, short).note("a cell short of an accepted net")?;
-    measures(&rt, heap, one, 0, 1, 64, 0, short).note("0 is 1, a cell short")?;
-    measures(&rt, heap, one, 0, 2, 64, 2, named).note("0 is 1, enough")?;
-    measures(&rt, heap, one, 65, 8191, 64, 0, short).note("65 is 64, a cell short")?;
-    measures(&rt, heap, one, 65, 8192, 64, 8192, named).note("65 is 64, enough")
+    measures(&rt, heap, one, 2, 8, 64, 8, named, "just enough")?;
+    measures(&rt, heap, one, 2, 7, 64, 0, short, "a cell short")?;
+    measures(&rt, heap, one, 2, 8, 63, 0, short, "a byte short")?;
+    measures(&rt, heap, one, 2, 0, 0, 0, short, "nothing")?;
+    measures(
+        &rt,
+        heap,
+        one,
+        2,
+        12,
+        70,
+        8,
+        named,
+        "more than enough, refused",
+    )?;
+    measures(
+        &rt,
+        heap,
+        zero,
+        2,
+        12,
+        70,
+        8,
+        Ok(()),
+        "more than enough, accepted",
+    )?;
+    measures(
+        &rt,
+        heap,
+        zero,
+        2,
+        7,
+        64,
+        0,
+        short,
+        "a cell short of an accepted net",
+    )?;
+    measures(&rt, heap, one, 0, 1, 64, 0, short, "0 is 1, a cell short")?;
+    measures(&rt, heap, one, 0, 2, 64, 2, named, "0 is 1, enough")?;
+    measures(
+        &rt,
+        heap,
+        one,
+        65,
+        8191,
+        64,
+        0,
+        short,
+        "65 is 64, a cell short",
+    )?;
+    measures(
+        &rt,
+        heap,
+        one,
+        65,
+        8192,
+        64,
+        8192,
+        named,
+        "65 is 64, enough",
+    )
 }
 
 // One is top, so that every circuit passes.
@@ -233,8 +339,8 @@ fn levels_and_sets(rt: HostRuntime) -> Result<(), Fail> {
             place(1, 1, 0, top),
         ],
         2,
-    )
-    .note("levels")?;
+        "levels",
+    )?;
     let all = Channels::new(0xffff);
     accepts(
         &rt,
@@ -245,6 +351,6 @@ fn levels_and_sets(rt: HostRuntime) -> Result<(), Fail> {
             place(1, 1, 0, all),
         ],
         2,
+        "sets",
     )
-    .note("sets")
 }

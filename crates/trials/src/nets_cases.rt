@@ -40,7 +40,7 @@ fn dates(rt: HostRuntime) -> Result<(), Fail> {
     let open = Date::Open;
     let impulse = [date(0), never, never];
     let response = [date(30), date(180), date(330)];
-    strikes(&rt, heap, &net, mark, &impulse, &response).note("impulse")?;
+    strikes(&rt, heap, &net, mark, &impulse, &response, "impulse")?;
     strikes(
         &rt,
         heap,
@@ -48,13 +48,13 @@ fn dates(rt: HostRuntime) -> Result<(), Fail> {
         mark,
         &[never, never, never],
         &[never, never, never],
-    )
-    .note("silence")?;
+        "silence",
+    )?;
     let dues = [date(500), date(600), date(900)];
     let plan = [date(420), date(570), date(870)];
     let heard = [date(450), date(600), date(900)];
-    recalls(&rt, heap, &net, mark, &dues, &plan).note("plan")?;
-    strikes(&rt, heap, &net, mark, &plan, &heard).note("plan played")?;
+    recalls(&rt, heap, &net, mark, &dues, &plan, "plan")?;
+    strikes(&rt, heap, &net, mark, &plan, &heard, "plan played")?;
     recalls(
         &rt,
         heap,
@@ -62,8 +62,8 @@ fn dates(rt: HostRuntime) -> Result<(), Fail> {
         mark,
         &[open, open, open],
         &[open, open, open],
+        "all open",
     )
-    .note("all open")
 }
 
 // Links beyond the counts take no part.
@@ -81,10 +81,10 @@ fn strangers(rt: HostRuntime) -> Result<(), Fail> {
     let net = Net::new(links.as_slice(), 2, 1, 1);
     let played = [zero, Date::Never, Date::Never];
     let heard = [date(30), date(180), date(330)];
-    strikes(&rt, heap, &net, date(999), &played, &heard).note("forward")?;
+    strikes(&rt, heap, &net, date(999), &played, &heard, "forward")?;
     let dues = [date(500), date(600), date(900)];
     let plan = [date(420), date(570), date(870)];
-    recalls(&rt, heap, &net, date(1), &dues, &plan).note("backward")
+    recalls(&rt, heap, &net, date(1), &dues, &plan, "backward")
 }
 
 #[test]
@@ -95,14 +95,22 @@ fn levels(rt: HostRuntime) -> Result<(), Fail> {
     let mark = level(77);
     let played = [level(120), level(0), level(80)];
     let heard = [level(90), level(60), level(80)];
-    strikes(&rt, heap, &net, mark, &played, &heard).note("forward")?;
+    strikes(&rt, heap, &net, mark, &played, &heard, "forward")?;
     let dues = [level(95), level(50), level(70)];
     let plan = [level(50), level(50), level(70)];
-    recalls(&rt, heap, &net, mark, &dues, &plan).note("backward")?;
-    strikes(&rt, heap, &net, mark, &plan, &plan).note("plan played")?;
+    recalls(&rt, heap, &net, mark, &dues, &plan, "backward")?;
+    strikes(&rt, heap, &net, mark, &plan, &plan, "plan played")?;
     let loose = [level(95), level(65), level(100)];
     let top = level(127);
-    recalls(&rt, heap, &net, mark, &loose, &[top, level(65), top]).note("backward to the top")
+    recalls(
+        &rt,
+        heap,
+        &net,
+        mark,
+        &loose,
+        &[top, level(65), top],
+        "backward to the top",
+    )
 }
 
 #[test]
@@ -127,7 +135,7 @@ fn sets(rt: HostRuntime) -> Result<(), Fail> {
         Channels::new(0x0030),
         Channels::new(0x0130),
     ];
-    strikes(&rt, heap, &net, mark, &played, &heard).note("forward")?;
+    strikes(&rt, heap, &net, mark, &played, &heard, "forward")?;
     let dues = [
         Channels::new(0x0030),
         Channels::new(0x0b10),
@@ -143,8 +151,8 @@ fn sets(rt: HostRuntime) -> Result<(), Fail> {
         Channels::new(0x0b10),
         Channels::new(0x0130),
     ];
-    recalls(&rt, heap, &net, mark, &dues, &plan).note("backward")?;
-    strikes(&rt, heap, &net, mark, &plan, &kept).note("plan played")
+    recalls(&rt, heap, &net, mark, &dues, &plan, "backward")?;
+    strikes(&rt, heap, &net, mark, &plan, &kept, "plan played")
 }
 
 // Both calls of the net over dates give this result with these places.
@@ -156,6 +164,7 @@ fn tries(
     output: usize,
     working: usize,
     wanted: Result<(), Refusal>,
+    case: &str,
 ) -> Result<(), Fail> {
     let links = dated_links(heap)?;
     let net = Net::new(links.as_slice(), 2, 1, 1);
@@ -164,7 +173,7 @@ fn tries(
         output,
         working,
     };
-    answers(rt, heap, &net, date(999), len, at, wanted)
+    answers(rt, heap, &net, date(999), len, at, wanted, case)
 }
 
 fn refuses(
@@ -174,8 +183,18 @@ fn refuses(
     input: usize,
     output: usize,
     working: usize,
+    case: &str,
 ) -> Result<(), Fail> {
-    tries(rt, heap, len, input, output, working, Err(Refusal::Short))
+    tries(
+        rt,
+        heap,
+        len,
+        input,
+        output,
+        working,
+        Err(Refusal::Short),
+        case,
+    )
 }
 
 // A net made with the first three counts has the other three transitions, inputs and outputs.
@@ -210,27 +229,59 @@ fn counts(rt: HostRuntime) -> Result<(), Fail> {
 #[test]
 fn room(rt: HostRuntime) -> Result<(), Fail> {
     let heap = rt.alloc();
-    tries(&rt, heap, 14, 0, 3, 6, Ok(())).note("just enough")?;
-    tries(&rt, heap, 14, 3, 0, 6, Ok(())).note("the output first")?;
-    tries(&rt, heap, 20, 0, 5, 11, Ok(())).note("blocks apart")?;
-    refuses(&rt, heap, 13, 0, 3, 6).note("a cell short")?;
-    refuses(&rt, heap, 0, 0, 3, 6).note("no cells")
+    tries(&rt, heap, 14, 0, 3, 6, Ok(()), "just enough")?;
+    tries(&rt, heap, 14, 3, 0, 6, Ok(()), "the output first")?;
+    tries(&rt, heap, 20, 0, 5, 11, Ok(()), "blocks apart")?;
+    refuses(&rt, heap, 13, 0, 3, 6, "a cell short")?;
+    refuses(&rt, heap, 0, 0, 3, 6, "no cells")
 }
 
 #[test]
 fn clashes(rt: HostRuntime) -> Result<(), Fail> {
     let heap = rt.alloc();
     let most = usize::MAX;
-    refuses(&rt, heap, 30, 0, 2, 10).note("the output in the input")?;
-    refuses(&rt, heap, 30, 2, 0, 10).note("the input in the output")?;
-    refuses(&rt, heap, 30, 4, 4, 10).note("one block for both")?;
-    refuses(&rt, heap, 30, 0, 8, 10).note("the output into the working cells")?;
-    refuses(&rt, heap, 30, 8, 0, 10).note("the input into the working cells")?;
-    refuses(&rt, heap, 30, 0, 20, 3).note("the output after the working cells")?;
-    refuses(&rt, heap, 30, 20, 0, 3).note("the input after the working cells")?;
-    refuses(&rt, heap, 30, most, 3, 6).note("the input at the last place")?;
-    refuses(&rt, heap, 30, 0, most - 1, 6).note("the output near the last place")?;
-    refuses(&rt, heap, 30, 0, 3, most).note("the working cells at the last place")?;
-    refuses(&rt, heap, 30, 0, 3, most - 7).note("the working cells would end at 0")?;
-    refuses(&rt, heap, 30, most - 2, 0, most).note("all near the last place")
+    refuses(&rt, heap, 30, 0, 2, 10, "the output in the input")?;
+    refuses(&rt, heap, 30, 2, 0, 10, "the input in the output")?;
+    refuses(&rt, heap, 30, 4, 4, 10, "one block for both")?;
+    refuses(&rt, heap, 30, 0, 8, 10, "the output into the working cells")?;
+    refuses(&rt, heap, 30, 8, 0, 10, "the input into the working cells")?;
+    refuses(
+        &rt,
+        heap,
+        30,
+        0,
+        20,
+        3,
+        "the output after the working cells",
+    )?;
+    refuses(&rt, heap, 30, 20, 0, 3, "the input after the working cells")?;
+    refuses(&rt, heap, 30, most, 3, 6, "the input at the last place")?;
+    refuses(
+        &rt,
+        heap,
+        30,
+        0,
+        most - 1,
+        6,
+        "the output near the last place",
+    )?;
+    refuses(
+        &rt,
+        heap,
+        30,
+        0,
+        3,
+        most,
+        "the working cells at the last place",
+    )?;
+    refuses(
+        &rt,
+        heap,
+        30,
+        0,
+        3,
+        most - 7,
+        "the working cells would end at 0",
+    )?;
+    refuses(&rt, heap, 30, most - 2, 0, most, "all near the last place")
 }

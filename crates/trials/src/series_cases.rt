@@ -24,8 +24,8 @@ fn copies(rt: HostRuntime) -> Result<(), Fail> {
         mark,
         &[date(0), date(100), never],
         &[date(30), date(130), never],
-    )
-    .note("forward")?;
+        "forward",
+    )?;
     recalls(
         &rt,
         heap,
@@ -33,8 +33,8 @@ fn copies(rt: HostRuntime) -> Result<(), Fail> {
         mark,
         &[date(130), date(30), date(29)],
         &[date(100), date(0), never],
-    )
-    .note("backward")?;
+        "backward",
+    )?;
     recalls(
         &rt,
         heap,
@@ -42,8 +42,8 @@ fn copies(rt: HostRuntime) -> Result<(), Fail> {
         mark,
         &[open, open, never],
         &[open, open, never],
+        "ends",
     )
-    .note("ends")
 }
 
 #[test]
@@ -63,8 +63,17 @@ fn copies_in_little_room(rt: HostRuntime) -> Result<(), Fail> {
         output: 3,
         working: 6,
     };
-    answers(&rt, heap, &pair, mark, 13, at, Ok(())).note("just enough")?;
-    answers(&rt, heap, &pair, mark, 12, at, Err(Refusal::Short)).note("a cell short")
+    answers(&rt, heap, &pair, mark, 13, at, Ok(()), "just enough")?;
+    answers(
+        &rt,
+        heap,
+        &pair,
+        mark,
+        12,
+        at,
+        Err(Refusal::Short),
+        "a cell short",
+    )
 }
 
 // The second has an input that the first does not drive: it is never struck.
@@ -90,8 +99,8 @@ fn input_without_wire(rt: HostRuntime) -> Result<(), Fail> {
         mark,
         &[date(0), Date::Never, date(50)],
         &[date(16), Date::Never, date(66)],
-    )
-    .note("forward")?;
+        "forward",
+    )?;
     recalls(
         &rt,
         heap,
@@ -99,8 +108,8 @@ fn input_without_wire(rt: HostRuntime) -> Result<(), Fail> {
         mark,
         &[date(100), Date::Open, date(130)],
         &[date(84), Date::Open, date(114)],
+        "backward",
     )
-    .note("backward")
 }
 
 // The first has an output that the second does not hear: it bounds nothing.
@@ -126,8 +135,8 @@ fn output_without_wire(rt: HostRuntime) -> Result<(), Fail> {
         mark,
         &[date(0), Date::Never, date(50)],
         &[date(30), Date::Never, date(80)],
-    )
-    .note("forward")?;
+        "forward",
+    )?;
     recalls(
         &rt,
         heap,
@@ -135,6 +144,6 @@ fn output_without_wire(rt: HostRuntime) -> Result<(), Fail> {
         mark,
         &[date(100), Date::Open, date(130)],
         &[date(70), Date::Open, date(100)],
+        "backward",
     )
-    .note("backward")
 }

@@ -48,11 +48,12 @@ fn agree<T: Kind + PartialEq + Debug>(
     wanted: &[T],
     working: usize,
     need: usize,
+    case: &str,
 ) {
-    assert_eq!(rt; sheet.len(), wanted.len());
+    assert_eq!(rt; sheet.len(), wanted.len(), "{case}");
     for (i, (cell, other)) in sheet.iter().zip(wanted.iter()).enumerate() {
         if i < working || i - working >= need {
-            assert_eq!(rt; *cell, *other);
+            assert_eq!(rt; *cell, *other, "{case}");
         }
     }
 }
@@ -65,6 +66,7 @@ pub(crate) fn strikes<T: Kind + PartialEq + Debug, P: Plant<Value = T>>(
     mark: T,
     inputs: &[T],
     outputs: &[T],
+    case: &str,
 ) -> Result<(), Fail> {
     let k = Horizon::new(3)?;
     let need = plant.need(k);
@@ -72,8 +74,19 @@ pub(crate) fn strikes<T: Kind + PartialEq + Debug, P: Plant<Value = T>>(
     let mut sheet = sheet_of(heap, inputs, blank.as_slice(), need, mark)?;
     let wanted = sheet_of(heap, inputs, outputs, need, mark)?;
     let at = places_of(inputs.len(), outputs.len());
-    assert_eq!(rt; plant.forward(k, sheet.as_mut_slice(), at), Ok(()));
-    agree(rt, sheet.as_slice(), wanted.as_slice(), at.working, need);
+    assert_eq!(rt;
+        plant.forward(k, sheet.as_mut_slice(), at),
+        Ok(()),
+        "{case}"
+    );
+    agree(
+        rt,
+        sheet.as_slice(),
+        wanted.as_slice(),
+        at.working,
+        need,
+        case,
+    );
     Ok(())
 }
 
@@ -85,6 +98,7 @@ pub(crate) fn recalls<T: Kind + PartialEq + Debug, P: Plant<Value = T>>(
     mark: T,
     outputs: &[T],
     inputs: &[T],
+    case: &str,
 ) -> Result<(), Fail> {
     let k = Horizon::new(3)?;
     let need = plant.need(k);
@@ -92,8 +106,19 @@ pub(crate) fn recalls<T: Kind + PartialEq + Debug, P: Plant<Value = T>>(
     let mut sheet = sheet_of(heap, blank.as_slice(), outputs, need, mark)?;
     let wanted = sheet_of(heap, inputs, outputs, need, mark)?;
     let at = places_of(inputs.len(), outputs.len());
-    assert_eq!(rt; plant.backward(k, sheet.as_mut_slice(), at), Ok(()));
-    agree(rt, sheet.as_slice(), wanted.as_slice(), at.working, need);
+    assert_eq!(rt;
+        plant.backward(k, sheet.as_mut_slice(), at),
+        Ok(()),
+        "{case}"
+    );
+    agree(
+        rt,
+        sheet.as_slice(),
+        wanted.as_slice(),
+        at.working,
+        need,
+        case,
+    );
     Ok(())
 }
 
@@ -107,17 +132,26 @@ pub(crate) fn answers<T: Kind + PartialEq + Debug, P: Plant<Value = T>>(
     len: usize,
     at: Places,
     wanted: Result<(), Refusal>,
+    case: &str,
 ) -> Result<(), Fail> {
     let k = Horizon::new(3)?;
     let before = copies_of(heap, len, mark)?;
     let mut sheet = copies_of(heap, len, mark)?;
-    assert_eq!(rt; plant.forward(k, sheet.as_mut_slice(), at), wanted);
+    assert_eq!(rt;
+        plant.forward(k, sheet.as_mut_slice(), at),
+        wanted,
+        "{case}"
+    );
     if wanted.is_err() {
-        agree(rt, sheet.as_slice(), before.as_slice(), len, 0);
+        agree(rt, sheet.as_slice(), before.as_slice(), len, 0, case);
     }
-    assert_eq!(rt; plant.backward(k, sheet.as_mut_slice(), at), wanted);
+    assert_eq!(rt;
+        plant.backward(k, sheet.as_mut_slice(), at),
+        wanted,
+        "{case}"
+    );
     if wanted.is_err() {
-        agree(rt, sheet.as_slice(), before.as_slice(), len, 0);
+        agree(rt, sheet.as_slice(), before.as_slice(), len, 0, case);
     }
     Ok(())
 }
