@@ -1,5 +1,5 @@
 -- A series answers as its parts do one after the other.
-use Rattle.std.proofs.Common.{◌≡◌, ℕ, ◌+◌, ◌-◌, ◌<◌, ◌≤◌, cond, ltb, sym, ap, ◌∙◌, ⊎_elim, arith}
+use Rattle.std.proofs.Common.{◌≡◌, ℕ, ◌+◌, ◌-◌, ◌<◌, ◌≤◌, sym, ap, ◌∙◌, ⊎_elim, arith}
 use Rattle.std.proofs.lemmas.Bool.{cases_lt, lt-ltb, le-ltb, and_left, and_right, and_from, cond-true, cond-false}
 use Rattle.kinds.specs.Kind.{Ops, Laws, AtMost}
 use Rattle.plants.specs.Meaning.{Meaning, joins, wired, forward_cell, forward_part, backward_cell}

@@ -1,6 +1,6 @@
 -- A net that is triggered once, in a sheet whose blocks stand one after the other.
 use Rattle.std.proofs.Common.{◌≡◌, ℕ, zero, suc, ◌+◌, ◌*◌, ◌/◌, ◌%◌, ◌<◌, ◌≤◌, List, ◌++◌, length, get_or, set, Ok, Err, Result, sym, refl, ap, ◌∙◌, subst, ap₂, inl, mod-lt, div-lt_iff_lt-mul, div-add-mod', zero-add, arith, below_more}
-use Rattle.std.proofs.lemmas.Nat.{mul-add-lt, div-mul-add, mod-mul-add}
+use Rattle.std.proofs.lemmas.Nat.{mul-add-lt, mod-mul-add}
 use Rattle.std.proofs.lemmas.List.{get_or-set_same, get_or-set_other}
 use Rattle.kinds.specs.Kind.{Ops}
 use Rattle.kinds.specs.declared.refusals.Refusal.{Refusal}

@@ -1,5 +1,5 @@
 -- From what the parts of a report say to what the whole says.
-use Rattle.std.proofs.Common.{◌≡◌, ℕ, List, drop, Ok, sym, subst}
+use Rattle.std.proofs.Common.{◌≡◌, ℕ, List, drop, Ok, subst}
 use Rattle.texts.specs.declared.positions.Position.{Position}
 use Rattle.texts.specs.declared.nets.Header.{Header}
 use Rattle.texts.specs.Lines.{past}

@@ -1,5 +1,5 @@
 -- Rows written one after another.
-use Rattle.std.proofs.Common.{◌≡◌, ℕ, suc, ◌+◌, ◌/◌, ◌%◌, List, ◌++◌, sym, ap, ◌∙◌, append_assoc, add-one}
+use Rattle.std.proofs.Common.{◌≡◌, ℕ, ◌+◌, ◌/◌, ◌%◌, List, ◌++◌, sym, ap, ◌∙◌, append_assoc, add-one}
 use Rattle.card.specs.Cells.{cell_row, cell_rows}
 
 pub row_more : {T : Type 0} (text : T → List ℕ) (beats : ℕ) (f : ℕ → T) (n : ℕ) (value : T) (was before after : List ℕ) → value ≡ f n

@@ -1,5 +1,5 @@
 -- What a refused check says of the circuits.
-use Rattle.std.proofs.Common.{◌≡◌, ℕ, ◌*◌, ◌≤◌, min, max, List, length, Err, arith}
+use Rattle.std.proofs.Common.{◌≡◌, ℕ, ◌*◌, ◌≤◌, min, max, List, Err, arith}
 use Rattle.std.proofs.lemmas.Nat.{mul-le}
 use Rattle.kinds.specs.Kind.{Ops}
 use Rattle.links.specs.declared.Link.{Link}

@@ -3,7 +3,7 @@ use Rattle.std.proofs.Common.{◌≡◌, ℕ, suc, ◌+◌, ◌-◌, ◌<◌, �
 use Rattle.std.proofs.lemmas.List.{append_assoc, append-nil, drop_more, drop-set-lt, set_at, length_push}
 use Rattle.std.proofs.lemmas.Bool.{cases_eq}
 use Rattle.kinds.specs.Kind.{Ops, Laws, AtMost}
-use Rattle.walks.specs.Walks.{gain, AllBelow, best}
+use Rattle.walks.specs.Walks.{AllBelow, best}
 use Rattle.walks.specs.Searches.{Greedily, Sought}
 use Rattle.circuits.specs.Grids.{spot, SameTo, Tabled, Listed}
 use Rattle.plants.proofs.Order.{joins_least}

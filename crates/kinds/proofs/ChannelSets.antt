@@ -1,5 +1,5 @@
 -- The sets by their channels.
-use Rattle.std.proofs.Common.{◌≡◌, ℕ, zero, suc, ◌/◌, ◌%◌, ◌^◌, ◌<◌, ◌≤◌, Bool, true, false, not, ◌&&◌, ◌||◌, eqb, sym, refl, ap, ◌∙◌, subst, ap₂, ⊎_elim, not-suc-le-zero, mod-lt, zero-lt-suc, arith, eqb-true}
+use Rattle.std.proofs.Common.{◌≡◌, ℕ, zero, suc, ◌/◌, ◌%◌, ◌^◌, ◌<◌, ◌≤◌, Bool, true, false, not, ◌&&◌, ◌||◌, eqb, refl, ap, ◌∙◌, subst, ⊎_elim, not-suc-le-zero, mod-lt, zero-lt-suc, arith, eqb-true}
 use native.Mathlib.Nat.{pow-le-pow_right, div-eq_of_lt}
 use lib.Bits.{bit_and, bit_or, bit_xor, and_shr, or_shr, xor_shr}
 use Rattle.std.proofs.lemmas.Bool.{cases_lt, and_parts}

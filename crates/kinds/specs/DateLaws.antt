@@ -1,11 +1,11 @@
 -- The dates keep the laws of a kind.
-use Rattle.std.specs.Prelude.{◌≡◌, ℕ, zero, suc, ◌+◌, ◌-◌, ◌<◌, ◌≤◌, min, max, Bool, true, false, cond, Some, nat_le, nat_lt, refl}
+use Rattle.std.specs.Prelude.{◌≡◌, ℕ, zero, suc, ◌+◌, ◌-◌, ◌<◌, ◌≤◌, min, max, cond, Some, nat_le, nat_lt, refl}
 use Rattle.std.proofs.Common.{sym, ap, ap₂, ◌∙◌, arith, leb-true, leb-false, ltb-true, ltb-false, le-leb, ⊎_elim, le_of_lt}
 use mathlib.Core.HLevel.{is_prop→PathP}
 use Rattle.std.proofs.Math.Bridge.{le_prop}
 use Rattle.std.proofs.Math.Nat.{max-eq_left, max-eq_right}
 use Rattle.std.proofs.lemmas.Bool.{cond_both, cond-false, cases_lt, lt-leb}
-use Rattle.kinds.specs.Kind.{Ops, Laws, AtMost}
+use Rattle.kinds.specs.Kind.{Laws}
 use Rattle.kinds.specs.Dates.{at, tick, new_tick, later, earlier, after, latest_start, no_later, date_ops}
 use Rattle.kinds.specs.declared.dates.Tick.{Tick}
 use Rattle.kinds.specs.declared.dates.Date.{Date}

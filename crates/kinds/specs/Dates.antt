@@ -1,5 +1,5 @@
 -- The dates: never, the ticks 0 to 1,000,000, and open, in this rising order.
-use Rattle.std.specs.Prelude.{ℕ, ◌+◌, ◌-◌, ◌≤◌, min, Bool, true, false, cond, Some, None, Option, nat_le, nat_lt}
+use Rattle.std.specs.Prelude.{ℕ, ◌+◌, ◌-◌, min, Bool, true, false, cond, Some, None, Option, nat_le, nat_lt}
 use Rattle.std.proofs.Math.Nat.{min-le_right}
 use Rattle.kinds.specs.Kind.{Ops}
 use Rattle.kinds.specs.declared.dates.Tick.{Tick}

@@ -1,10 +1,10 @@
 -- The levels keep the laws of a kind.
-use Rattle.std.specs.Prelude.{◌≡◌, ℕ, ◌≤◌, min, max, Bool, true, false, cond, Some, nat_le, refl}
+use Rattle.std.specs.Prelude.{◌≡◌, ◌≤◌, min, max, Some, nat_le, refl}
 use Rattle.std.proofs.Common.{ap, arith, leb-true, leb-false, le-leb}
 use mathlib.Core.HLevel.{is_prop→PathP}
 use Rattle.std.proofs.Math.Bridge.{le_prop}
 use Rattle.std.proofs.lemmas.Bool.{cond_both}
-use Rattle.kinds.specs.Kind.{Ops, Laws, AtMost}
+use Rattle.kinds.specs.Kind.{Laws}
 use Rattle.kinds.specs.Levels.{level, new_level, larger, smaller, ceiling, level_ops}
 use Rattle.kinds.specs.declared.levels.Level.{Level}
 use Rattle.kinds.specs.Chain

@@ -1,5 +1,5 @@
 -- The levels 0 to 127.
-use Rattle.std.specs.Prelude.{ℕ, ◌≤◌, min, Bool, cond, Some, None, Option, nat_le}
+use Rattle.std.specs.Prelude.{ℕ, min, cond, Some, None, Option, nat_le}
 use Rattle.std.proofs.Math.Nat.{min-le_right}
 use Rattle.kinds.specs.Kind.{Ops}
 use Rattle.kinds.specs.declared.levels.Level.{Level}

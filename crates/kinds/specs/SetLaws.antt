@@ -1,11 +1,11 @@
 -- The sets of channels keep the laws of a kind.
-use Rattle.std.specs.Prelude.{◌≡◌, ℕ, suc, ◌%◌, ◌^◌, ◌<◌, ◌≤◌, ◌↔◌, bit_and, bit_or, bit_xor, refl}
+use Rattle.std.specs.Prelude.{◌≡◌, ℕ, ◌^◌, ◌<◌, bit_and, bit_or, bit_xor}
 use Rattle.std.proofs.Common.{sym, ap, ap₂, ◌∙◌, subst, mod-eq_of_lt, arith, eqb-true, eq-eqb}
 use mathlib.Core.HLevel.{is_prop→PathP}
 use Rattle.std.proofs.Math.Bridge.{le_prop}
 use Rattle.std.proofs.lemmas.Nat.{or_comm, and_comm, or_lt, xor_lt}
-use Rattle.std.specs.Int.Bits.{or_self, and_self, and_lt, or_zero_r}
-use Rattle.kinds.specs.Kind.{Ops, Laws, AtMost}
+use Rattle.std.specs.Int.Bits.{or_self, and_self, and_lt}
+use Rattle.kinds.specs.Kind.{Laws, AtMost}
 use Rattle.kinds.specs.Sets.{of_bits, set_ops}
 use Rattle.kinds.specs.declared.channels.Channels.{Channels}
 use Rattle.kinds.specs.BitLaws.{or_assoc, and_assoc, and_or, and_all, and_not, or_not, or_all, or_to_and, and_to_or}

@@ -1,5 +1,5 @@
 -- The sets of the channels 0 to 15: channel c is bit c.
-use Rattle.std.specs.Prelude.{◌≡◌, ℕ, ◌/◌, ◌%◌, ◌^◌, ◌<◌, Bool, true, not, ◌&&◌, ◌||◌, ◌↔◌, ◌==◌, bit_and, bit_or, bit_xor}
+use Rattle.std.specs.Prelude.{◌≡◌, ℕ, ◌/◌, ◌%◌, ◌^◌, ◌<◌, Bool, not, ◌&&◌, ◌||◌, ◌==◌, bit_and, bit_or, bit_xor}
 use Rattle.std.proofs.Common.{mod-lt, pow_pos}
 use Rattle.kinds.specs.Kind.{Ops}
 use Rattle.kinds.specs.declared.channels.Channels.{Channels}

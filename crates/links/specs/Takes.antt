@@ -1,7 +1,6 @@
 -- Which links take part in a net of n transitions, m inputs and p outputs, and how.
 -- A link whose ends lie beyond these counts or whose tokens lie beyond their limits takes no part.
-use Rattle.std.specs.Prelude.{ℕ, Bool, true, false, ◌&&◌, ◌==◌, nat_lt}
-use Rattle.links.specs.declared.Sort.{Sort}
+use Rattle.std.specs.Prelude.{ℕ, Bool, ◌&&◌, ◌==◌, nat_lt}
 use Rattle.links.specs.declared.Sort.TheVariants.{Place, Input, Output}
 use Rattle.links.specs.declared.Link.{Link}
 use Rattle.links.specs.Tallies.{same_sort}

@@ -1,8 +1,7 @@
 -- The line at an index of a block's lines.
-use Rattle.std.proofs.Common.{◌≡◌, ℕ, zero, suc, ◌+◌, ◌/◌, ◌%◌, ◌<◌, ◌≤◌, List, [], ◌∷◌, length, get_or, Some, None, Option, sym, refl, ap, ◌∙◌, add-zero, arith}
+use Rattle.std.proofs.Common.{◌≡◌, ℕ, zero, suc, ◌+◌, ◌/◌, ◌%◌, ◌<◌, ◌≤◌, List, [], ◌∷◌, length, get_or, Some, None, sym, refl, ap, ◌∙◌, add-zero, arith}
 use Rattle.listing.specs.declared.lines.Block.{Block}
-use Rattle.listing.specs.declared.lines.CardLine.{CardLine}
-use Rattle.listing.specs.declared.lines.CardLine.TheVariants.{Answered, Cell, Refused}
+use Rattle.listing.specs.declared.lines.CardLine.TheVariants.{Cell}
 use Rattle.listing.specs.BlockLines.{lines_at, nth}
 
 pub nth_get_or : {A : Type 0} (xs : List A) (i : ℕ) (d : A) → i < length xs → nth xs i ≡ Some (get_or xs i d)

@@ -1,5 +1,5 @@
 -- What a turn leaves in the sheet.
-use Rattle.std.specs.Prelude.{◌≡◌, ℕ, zero, suc, ◌+◌, ◌-◌, ◌*◌, ◌<◌, ◌≤◌, Bool, true, List, [], ◌∷◌, ◌≢◌}
+use Rattle.std.specs.Prelude.{◌≡◌, ℕ, zero, suc, ◌+◌, ◌-◌, ◌*◌, ◌<◌, Bool, true, List, [], ◌∷◌, ◌≢◌}
 use Rattle.kinds.specs.Kind.{Ops, AtMost}
 use Rattle.links.specs.declared.Link.{Link}
 use Rattle.plants.specs.Calls.{Outside}

@@ -1,17 +1,13 @@
 -- Reading a written date, level or set returns it.
-use Rattle.std.specs.Prelude.{◌≡◌, ℕ, ◌^◌, ◌<◌, ◌≤◌, false, ◌&&◌, List, length, Some, Ok, ◌==◌, slice_index, refl}
+use Rattle.std.specs.Prelude.{◌≡◌, ℕ, ◌^◌, ◌<◌, ◌≤◌, false, List, length, Some, Ok, ◌==◌, slice_index, refl}
 use Rattle.std.proofs.Common.{ap, ◌∙◌, arith}
 use Rattle.std.proofs.lemmas.Bool.{ne_eqb, and_right}
-use Rattle.kinds.specs.declared.dates.Date.{Date}
 use Rattle.kinds.specs.declared.dates.Date.TheVariants.{Never, At, Open}
-use Rattle.kinds.specs.declared.levels.Level.{Level}
-use Rattle.kinds.specs.declared.channels.Channels.{Channels}
-use Rattle.kinds.specs.Levels.{new_level}
 use Rattle.kinds.specs.Sets.{of_bits}
 use Rattle.kinds.specs.DateLaws.{tick_again}
 use Rattle.kinds.specs.LevelLaws.{level_again}
 use Rattle.kinds.specs.SetLaws.{set_again}
-use Rattle.numerals.specs.Decimals.{number_of, text_of}
+use Rattle.numerals.specs.Decimals.{text_of}
 use Rattle.numerals.specs.Texts.{ReadsBack, in_range, just?, date_of, date_text, level_of, level_text, channels_of, channels_text}
 use Rattle.numerals.specs.Numerals.{read_back, text_first}
 use Rattle.numerals.specs.Nibbles.{bits_back}

@@ -6,7 +6,6 @@ use Rattle.kinds.specs.declared.refusals.Refusal.TheVariants.{Missing, Short, Or
 use Rattle.plants.specs.Meaning.{Meaning}
 use Rattle.runs.specs.History.{playing}
 use Rattle.runs.specs.declared.acts.Act.{Act}
-use Rattle.runs.specs.declared.acts.Answer.{Answer}
 use Rattle.runs.specs.declared.acts.Answer.TheVariants.{Ordered}
 use Rattle.phrases.specs.Cells.{plan}
 use Rattle.phrases.specs.Orders.{order_answer}

@@ -7,7 +7,7 @@ use Rattle.plants.proofs.Order.{bottom_least}
 use Rattle.runs.specs.Plans.{Block, Same, put}
 use Rattle.runs.proofs.Whys.{why, never}
 use Rattle.phrases.specs.Orders.{lane_at, is_out, back, ordered, order_answer}
-use Rattle.runs.specs.History.{Run, Stage, written, takes, stage_of, nothing, given, deed, Laid, Ours, held_of, Fair, Sound}
+use Rattle.runs.specs.History.{Run, Stage, takes, stage_of, nothing, given, deed, Laid, Ours, held_of, Fair, Sound}
 use Rattle.phrases.specs.Cells.{total, plan_from, score, plan, cell_of, RefusedShort, Laid_out, Struck, Taken, Turned, Fired, Unfired, Missed, Unmissed}
 use Rattle.phrases.specs.Steps.{room, Left, lay_act, due_act, strikes_act, fire_act, miss_act, order_act}
 use Rattle.runs.specs.declared.acts.Answer.{Answer}

@@ -4,7 +4,7 @@ use Rattle.std.proofs.lemmas.Bool.{both_ways}
 use Rattle.std.proofs.lemmas.List.{take_more_set, get_or_default}
 use Rattle.kinds.specs.Kind.{Ops}
 use Rattle.plants.specs.Meaning.{Meaning}
-use Rattle.runs.specs.History.{Run, Stage, written}
+use Rattle.runs.specs.History.{Run, Stage}
 use Rattle.phrases.specs.Steps.{Left}
 use Rattle.phrases.specs.Phases.{LeftOf, Advanced, PlayedFrom}
 use Rattle.phrases.specs.declared.states.Written.{Written}

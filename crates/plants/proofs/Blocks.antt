@@ -1,10 +1,10 @@
 -- Cells that are written one by one, and cells that count.
-use Rattle.std.proofs.Common.{◌≡◌, ℕ, zero, suc, ◌+◌, ◌-◌, ◌*◌, ◌/◌, ◌%◌, ◌<◌, ◌≤◌, List, length, get_or, set, sym, refl, ap, ◌∙◌, subst, ⊎_elim, arith}
+use Rattle.std.proofs.Common.{◌≡◌, ℕ, zero, suc, ◌+◌, ◌-◌, ◌<◌, ◌≤◌, List, length, get_or, set, sym, refl, ap, ◌∙◌, subst, ⊎_elim, arith}
 use Rattle.std.proofs.lemmas.List.{get_or-set_same, get_or-set_other}
 use Rattle.std.proofs.lemmas.Bool.{cases_eq, cases_lt}
 use Rattle.kinds.specs.Kind.{Ops}
 use Rattle.plants.specs.Meaning.{Meaning, joins, meets, forward_cell, backward_cell}
-use Rattle.plants.specs.Calls.{Outside, Flooded}
+use Rattle.plants.specs.Calls.{Flooded}
 
 module _ {T : Type 0} (o : Ops T) where
   pub flooded_none : (start : ℕ) (v : T) (s : List T) → Flooded o start 0 v s s

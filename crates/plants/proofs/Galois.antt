@@ -1,8 +1,8 @@
 -- Forward and backward are adjoint, and what follows from that.
 use Rattle.std.proofs.Common.{◌≡◌, ℕ, ◌+◌, ◌-◌, ◌<◌, ◌≤◌, sym, ap, arith}
 use Rattle.kinds.specs.Kind.{Ops, Laws, AtMost}
-use Rattle.plants.specs.Meaning.{Meaning, joins, meets, forward_cell, forward_part, backward_cell, backward_part}
-use Rattle.plants.specs.Theorems.{Below, Meets, CeilingIsExact, CeilingIsGreatest, ForwardRises, BackwardRises, TopCeiling}
+use Rattle.plants.specs.Meaning.{Meaning, forward_cell, forward_part, backward_cell, backward_part}
+use Rattle.plants.specs.Theorems.{CeilingIsExact, CeilingIsGreatest, ForwardRises, BackwardRises, TopCeiling}
 use Rattle.plants.proofs.Order.{least_trans, both_least, same_least, from_residual, to_residual, joins_term, joins_least, meets_term, meets_greatest}
 
 module _ {T : Type 0} {o : Ops T} (L : Laws o) where

@@ -1,6 +1,6 @@
 -- Steps of a loop that joins or meets.
-use Rattle.std.proofs.Common.{◌≡◌, ℕ, zero, suc, ◌+◌, ◌-◌, ◌*◌, ◌<◌, ◌≤◌, sym, refl, ap, ◌∙◌, add-one, arith}
-use Rattle.kinds.specs.Kind.{Ops, Laws, AtMost}
+use Rattle.std.proofs.Common.{◌≡◌, ℕ, ◌+◌, sym, ap, ◌∙◌, add-one}
+use Rattle.kinds.specs.Kind.{Ops}
 use Rattle.plants.specs.Meaning.{joins, meets}
 
 module _ {T : Type 0} (o : Ops T) where

@@ -1,5 +1,5 @@
 -- What a plant means, and the answers that it gives.
-use Rattle.std.specs.Prelude.{◌≡◌, ℕ, zero, suc, ◌+◌, ◌-◌, ◌*◌, ◌<◌, ◌≤◌, cond, ◌&&◌, List, nat_lt, slice_index_or}
+use Rattle.std.specs.Prelude.{ℕ, zero, suc, ◌+◌, ◌-◌, ◌*◌, ◌≤◌, cond, ◌&&◌, List, nat_lt, slice_index_or}
 use Rattle.kinds.specs.Kind.{Ops}
 
 -- counts of inputs and outputs, and the response by output, input and delay

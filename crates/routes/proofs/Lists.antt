@@ -2,7 +2,7 @@
 use Rattle.std.proofs.Common.{◌≡◌, ℕ, Bool, true, false, cond, ◌&&◌, eqb, List, [], ◌∷◌, sym, refl, ap, ◌∙◌, subst, ap₂, inl, inr, ⊎_elim}
 use Rattle.std.proofs.lemmas.Bool.{and_parts, eqb-true, eq-eqb, cases_Bool}
 use Rattle.kinds.specs.Kind.{Ops, Laws, AtMost}
-use Rattle.plants.proofs.Order.{least_trans, join_left, join_right, join_least, bottom_least, meet_both, under_left, under_right}
+use Rattle.plants.proofs.Order.{least_trans, join_left, join_right, join_least, meet_both, under_left, under_right}
 use Rattle.walks.proofs.Joined.{joined_term, joined_least, gate_least}
 use Rattle.walks.specs.Circuits.{Among}
 use Rattle.walks.specs.Folds.{fold, gate, joined, pass, met}

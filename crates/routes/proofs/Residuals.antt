@@ -1,12 +1,11 @@
 -- The backward answer of a net that passes is the residual of its least solutions.
-use Rattle.std.proofs.Common.{◌≡◌, ℕ, ◌<◌, ◌≤◌, List, sym, ap, ◌∙◌, subst}
+use Rattle.std.proofs.Common.{◌≡◌, ℕ, ◌<◌, List, sym, ap, ◌∙◌, subst}
 use Rattle.kinds.specs.Kind.{Ops, Laws, AtMost}
 use Rattle.links.specs.Takes.{leaving}
 use Rattle.links.specs.declared.Link.{Link}
 use Rattle.plants.specs.Meaning.{forward_cell}
 use Rattle.plants.proofs.Order.{both_least}
 use Rattle.plants.proofs.Galois.{meets_score, under_ceiling}
-use Rattle.walks.specs.Circuits.{Passes}
 use Rattle.routes.specs.Routes.{net_meaning}
 use Rattle.routes.specs.Solutions.{LeavesLeast}
 use Rattle.routes.specs.Theorems.{CeilingsBoundSolutions}

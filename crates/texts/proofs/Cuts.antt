@@ -1,15 +1,14 @@
 -- What `line_of` answers.
-use Rattle.std.proofs.Common.{◌≡◌, ℕ, zero, suc, ◌+◌, ◌-◌, ◌<◌, ◌≤◌, Bool, true, false, cond, ltb, leb, ◌⊎◌, List, [], length, take, drop, Ok, Err, Result, sym, refl, ap, ◌∙◌, inl, inr, arith}
+use Rattle.std.proofs.Common.{◌≡◌, ℕ, ◌+◌, ◌-◌, ◌<◌, ◌≤◌, ◌⊎◌, List, length, take, drop, Ok, ap, ◌∙◌, arith}
 use native.Mathlib.Nat.{sub-zero}
-use Rattle.std.proofs.lemmas.List.{drop_all, take_rest, length-take-le}
+use Rattle.std.proofs.lemmas.List.{drop_all}
 use Rattle.std.proofs.lemmas.Bool.Decides.{nat_tests}
 use Rattle.kinds.specs.declared.refusals.Refusal.TheVariants.{Shape}
-use Rattle.texts.specs.declared.faults.Wrong.{Wrong}
 use Rattle.texts.specs.declared.positions.Position.{Position}
 use Rattle.texts.specs.Splits.{before}
 use Rattle.texts.specs.Faults.{wrong}
 use Rattle.texts.specs.Lines.{line_of, past}
-use Rattle.texts.proofs.Splits.{take_before, before_le}
+use Rattle.texts.proofs.Splits.{take_before}
 
 pub no_text : (text : List ℕ) (place : ℕ) → length text ≤ place → line_of (drop place text) ≡ wrong Shape 0
 no_text text place h = ap line_of (drop_all place text h)

@@ -1,9 +1,9 @@
 -- Laws of `before`, `after` and `pieces`.
-use Rattle.std.proofs.Common.{◌≡◌, ℕ, zero, suc, ◌+◌, ◌-◌, ◌<◌, ◌≤◌, Bool, true, false, cond, eqb, List, [], ◌∷◌, ◌++◌, length, get_or, take, drop, sym, refl, ap, ◌∙◌, subst, add-one, arith}
+use Rattle.std.proofs.Common.{◌≡◌, ℕ, zero, suc, ◌+◌, ◌-◌, ◌<◌, ◌≤◌, true, false, cond, eqb, List, [], ◌∷◌, length, get_or, take, drop, sym, refl, ap, ◌∙◌, add-one, arith}
 use native.Mathlib.Nat.{sub-zero}
-use Rattle.std.proofs.lemmas.List.{at_drop_more, at_drop_all, take_rest, drop_all}
+use Rattle.std.proofs.lemmas.List.{at_drop_more, take_rest, drop_all}
 use Rattle.std.proofs.lemmas.Bool.{eq-eqb, ne_eqb}
-use Rattle.texts.specs.Splits.{before, after, onto, pieces, fields}
+use Rattle.texts.specs.Splits.{before, after, onto, pieces}
 
 sub_one_suc : (i : ℕ) → suc i - 1 ≡ i
 sub_one_suc i = omega arith

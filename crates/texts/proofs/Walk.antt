@@ -1,9 +1,8 @@
 -- How reading the links of a net goes on from line to line.
-use Rattle.std.proofs.Common.{◌≡◌, ℕ, zero, suc, ◌+◌, ◌-◌, ◌<◌, ◌≤◌, Bool, true, false, cond, eqb, ltb, leb, List, [], ◌∷◌, length, drop, set, Ok, Err, Result, sym, refl, ap, ◌∙◌, subst, add-one, arith, length-drop}
+use Rattle.std.proofs.Common.{◌≡◌, ℕ, suc, ◌+◌, ◌<◌, ◌≤◌, Bool, true, false, cond, eqb, ltb, List, [], ◌∷◌, length, drop, set, Ok, Err, Result, sym, refl, ap, ◌∙◌, arith, length-drop}
 use Rattle.std.proofs.lemmas.List.{drop_all, drop-drop}
 use Rattle.std.proofs.lemmas.Bool.{lt-ltb, le-ltb, ltb-true, ltb-false, ne_eqb}
 use Rattle.numerals.specs.declared.cards.Misread.{Misread}
-use Rattle.kinds.specs.declared.refusals.Refusal.TheVariants.{Shape}
 use Rattle.texts.specs.declared.faults.Wrong.{Wrong}
 use Rattle.texts.specs.declared.faults.Fault.{Fault}
 use Rattle.texts.specs.declared.faults.TextName.TheVariants.{Net}
@@ -11,10 +10,10 @@ use Rattle.links.specs.declared.Counts.{Counts}
 use Rattle.links.specs.declared.Link.{Link}
 use Rattle.texts.specs.declared.positions.Position.{Position}
 use Rattle.texts.specs.Splits.{before, after, onto, pieces}
-use Rattle.texts.specs.Faults.{fault_at, faulted}
+use Rattle.texts.specs.Faults.{faulted}
 use Rattle.texts.specs.Lines.{line_of, past, position_after}
-use Rattle.texts.proofs.Splits.{before_le, drop_after, pieces_some}
-use Rattle.texts.specs.NetTexts.{has_space, told, table_after, count_after, line_in, linked, step_of, After, onward, past_line, links_read, links_on}
+use Rattle.texts.proofs.Splits.{drop_after, pieces_some}
+use Rattle.texts.specs.NetTexts.{has_space, told, table_after, count_after, linked, step_of, After, onward, links_read, links_on}
 
 -- the pieces of a text, by whether its first line has an end
 pub pieces_cut : (c : ℕ) (bs : List ℕ) → length (before c bs) < length bs → pieces c bs ≡ before c bs ∷ pieces c (after c bs)

@@ -1,5 +1,5 @@
 -- What one field of a line says: first its spelling, then its range. Fields are numbered from 1.
-use Rattle.std.specs.Prelude.{ℕ, ◌-◌, cond, ◌&&◌, List, [], Some, None, Ok, Err, Option, Result, nat_le, nat_lt, slice_index_or}
+use Rattle.std.specs.Prelude.{ℕ, ◌-◌, ◌&&◌, List, [], Some, None, Ok, Err, Option, Result, nat_le, nat_lt, slice_index_or}
 use Rattle.kinds.specs.declared.refusals.Refusal.TheVariants.{Spelling, Range}
 use Rattle.numerals.specs.declared.cards.Misread.{Misread}
 use Rattle.numerals.specs.declared.cards.Misread.TheVariants

@@ -1,5 +1,5 @@
 -- What a line of a net says: its letter, then the number of its fields, then each field from the left.
-use Rattle.std.specs.Prelude.{ℕ, cond, List, length, Some, None, Ok, Err, Option, Result, ◌==◌, slice_index}
+use Rattle.std.specs.Prelude.{ℕ, cond, List, length, Some, None, Ok, Option, Result, ◌==◌, slice_index}
 use Rattle.kinds.specs.declared.refusals.Refusal.TheVariants.{Shape, Spelling}
 use Rattle.links.specs.declared.Sort.{Sort}
 use Rattle.links.specs.declared.Sort.TheVariants.{Place, Input, Output}

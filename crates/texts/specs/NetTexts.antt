@@ -11,7 +11,7 @@ use Rattle.texts.specs.declared.positions.Position.{Position}
 use Rattle.texts.specs.declared.nets.Header.{Header}
 use Rattle.texts.specs.Splits.{pieces}
 use Rattle.texts.specs.Faults.{then, check, fault_at, faulted}
-use Rattle.texts.specs.Lines.{within, line_of, past}
+use Rattle.texts.specs.Lines.{within, line_of}
 use Rattle.texts.specs.NetLines.{header_line, net_line}
 
 abbrev pub first_line : List ℕ → Result Header Wrong

@@ -1,5 +1,5 @@
 -- Lines and fields of a text.
-use Rattle.std.specs.Prelude.{ℕ, Bool, true, false, cond, List, [], ◌∷◌, ◌++◌, ◌==◌}
+use Rattle.std.specs.Prelude.{ℕ, cond, List, [], ◌∷◌, ◌==◌}
 
 -- the bytes before the first c, or all
 abbrev pub before : ℕ → List ℕ → List ℕ

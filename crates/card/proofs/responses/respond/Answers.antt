@@ -1,6 +1,5 @@
-use Rattle.std.proofs.Common.{◌≡◌, ℕ, ◌+◌, ◌*◌, ◌≤◌, List, ◌++◌, length, vec_items, ap, ◌∙◌, arith}
-use Rattle.plants.specs.Meaning.{block, forward_cell}
-use Rattle.plants.specs.Calls.{Forward, Filled}
+use Rattle.std.proofs.Common.{◌≡◌, ◌+◌, ◌*◌, ◌++◌, length, vec_items, ap, ◌∙◌, arith}
+use Rattle.plants.specs.Calls.{Forward}
 use Rattle.nets.specs.Nets.{meant, net_need}
 use Rattle.card.specs.Cells.{cell_at, cell_rows}
 use Rattle.card.specs.Responses.{Struck, response_cell}

@@ -1,4 +1,4 @@
-use Rattle.std.proofs.Common.{◌≡◌, length, ap, ◌∙◌, arith}
+use Rattle.std.proofs.Common.{length, ap, ◌∙◌, arith}
 use Rattle.card.proofs.Repeats.{length_copies}
 use Rattle.card.proofs.responses.write_responses.Goals as goal
 

@@ -1,8 +1,6 @@
-use Rattle.std.proofs.Common.{◌≡◌, ℕ, ◌+◌, ◌-◌, ◌<◌, ◌≤◌, List, length, take, drop, Ok, Err, sym, refl, ap, ◌∙◌, subst, arith, length-drop, rules}
+use Rattle.std.proofs.Common.{◌≡◌, ℕ, ◌-◌, ◌<◌, List, length, take, drop, Ok, sym, ap, ◌∙◌, arith, length-drop, rules}
 use Rattle.std.proofs.lemmas.List.{take_rest}
-use Rattle.texts.specs.declared.positions.Position.{Position}
 use Rattle.texts.specs.Splits.{before}
-use Rattle.texts.specs.Lines.{line_of, past}
 use Rattle.texts.proofs.Cuts.{no_text, bad_line, good_line, cut_line, past_is}
 use Rattle.texts.proofs.positions.take_line.Goals as goal
 

@@ -1,11 +1,10 @@
-use Rattle.std.proofs.Common.{◌≡◌, ℕ, List, [], ◌∷◌, Ok, Err, sym, refl, ap, ◌∙◌, subst, ap₂, MatchResult}
-use Rattle.runs.specs.declared.acts.Act.{Act}
+use Rattle.std.proofs.Common.{◌≡◌, ℕ, [], ◌∷◌, Ok, Err, sym, refl, ap, ◌∙◌, subst, ap₂}
 use Rattle.runs.specs.History.{playing}
 use Rattle.runs.specs.declared.acts.Answer.{Answer}
 use Rattle.runs.specs.declared.acts.Answer.TheVariants.{Done, Ordered, Refused}
 use Rattle.runs.specs.declared.acts.Call.TheVariants.{Order, Fire, Miss}
 use Rattle.phrases.specs.Orders.{lane_at}
-use Rattle.phrases.specs.Steps.{Left, room, order_act, told_back, fire_act, miss_act}
+use Rattle.phrases.specs.Steps.{Left, room, told_back, fire_act, miss_act}
 use Rattle.phrases.proofs.Following.{for_input, still, answered}
 use Rattle.phrases.proofs.states.Playing.fire_next.Goals as goal
 

@@ -1,10 +1,10 @@
-use Rattle.std.proofs.Common.{◌≡◌, ℕ, List, [], ◌∷◌, Ok, Err, sym, refl, ap, ◌∙◌, subst, ap₂}
+use Rattle.std.proofs.Common.{◌≡◌, ℕ, [], ◌∷◌, Ok, Err, sym, refl, ap, ◌∙◌, subst, ap₂}
 use Rattle.runs.specs.History.{playing}
 use Rattle.runs.specs.declared.acts.Answer.{Answer}
 use Rattle.runs.specs.declared.acts.Answer.TheVariants.{Ordered}
 use Rattle.runs.specs.declared.acts.Call.TheVariants.{Order, Miss}
 use Rattle.phrases.specs.Orders.{lane_at}
-use Rattle.phrases.specs.Steps.{Left, room, order_act, told_back, miss_act}
+use Rattle.phrases.specs.Steps.{Left, room, told_back, miss_act}
 use Rattle.phrases.proofs.Following.{for_input, still, answered}
 use Rattle.phrases.proofs.states.Playing.miss_next.Goals as goal
 

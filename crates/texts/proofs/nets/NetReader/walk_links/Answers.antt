@@ -1,6 +1,6 @@
-use Rattle.std.proofs.Common.{◌≡◌, Ok, Err, sym, ap, ◌∙◌, rules}
+use Rattle.std.proofs.Common.{Err, sym, ap, ◌∙◌, rules}
 use Rattle.std.proofs.lemmas.Result.{err_from_is_err_and}
-use Rattle.texts.specs.NetTexts.{After, links_on}
+use Rattle.texts.specs.NetTexts.{links_on}
 use Rattle.texts.proofs.Walk.{walk_end, line_accepted, line_refused}
 use Rattle.texts.proofs.nets.NetReader.walk_links.Goals as goal
 
