@@ -49,7 +49,7 @@ fn load_as<T: CardKind>(
     mut reader: NetReader<'_>,
     counts: Counts,
 ) -> Result<Result<CheckedNet<T>, Fault>, AllocError>
-    ensures { IfOk result (λ a. ReadAs T.Kind.ops reading counts reader.entry.text.now reader.entry.at (copies 320 (blank T.Kind.ops)) a) }
+    ensures { IfOk result (λ a. ReadAs T.Kind.ops T.CardKind.reading counts reader.entry.text.now reader.entry.at (copies 320 (blank T.Kind.ops)) a) }
 {
     let mut links = copies_of(heap, 320, blank_link::<T>())?;
     let mut count = 0;
