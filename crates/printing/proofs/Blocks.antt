@@ -1,5 +1,5 @@
 -- The plan and the strikes of a sheet, written one after the other.
-use Rattle.std.proofs.Common.{◌≡◌, ℕ, zero, suc, ◌+◌, ◌*◌, ◌/◌, ◌%◌, ◌<◌, ◌≤◌, List, ◌++◌, length, Ok, Err, Result, refl, ap, ◌∙◌, ap₂, append_assoc, mod-lt, div-lt_iff_lt-mul, arith, MatchResult}
+use Rattle.std.proofs.Common.{◌≡◌, ℕ, zero, suc, ◌+◌, ◌*◌, ◌/◌, ◌%◌, ◌<◌, ◌≤◌, List, ◌++◌, length, Result, refl, ◌∙◌, ap₂, append_assoc, mod-lt, div-lt_iff_lt-mul, arith, MatchResult}
 use Rattle.kinds.specs.Kind.{Ops}
 use Rattle.kinds.specs.declared.refusals.Refusal.{Refusal}
 use Rattle.plants.specs.Meaning.{Meaning, block, forward_cell}

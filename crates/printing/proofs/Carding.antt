@@ -1,5 +1,5 @@
 -- From the card of the lines after the first to the card of the whole text.
-use Rattle.std.proofs.Common.{◌≡◌, ℕ, List, drop, Ok, Result, sym, subst}
+use Rattle.std.proofs.Common.{◌≡◌, ℕ, List, drop, Ok, Result, subst}
 use Rattle.kinds.specs.Kind.{Ops}
 use Rattle.numerals.specs.declared.cards.Misread.{Misread}
 use Rattle.plants.specs.Meaning.{Meaning}

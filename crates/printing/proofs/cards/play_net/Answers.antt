@@ -9,6 +9,6 @@ returns g c =
     let net = c.args.net.now in
     beats_played o g.T.CardKind.text g.T.CardKind.reading (net_of o net.counts (vec_items net.links))
     c.args.score.now c.new-reader.result.text.now c.read_beats.new.self.text.now (record { place = 0; line = 0 })
-    c.new-reader.result.at c.read_beats.new.self.at c.in-Ok.beats c.in-Ok-new.k.beats (vec_items c.in_ok-out-2.out)
+    c.new-reader.result.at c.read_beats.new.self.at c.in-Ok.beats c.in-Ok-new.k.beats (vec_items c.in_ok-out.out)
     c.new-reader.ensures.0 c.new-reader.ensures.1 c.in-Ok.ensures.result c.in-Ok.ensures.position c.in-Ok.ensures.same
-    c.in-Ok-new.ensures c.in_ok-out-2.ensures
+    c.in-Ok-new.ensures c.in_ok-out.ensures

@@ -9,11 +9,11 @@ use Rattle.printing.proofs.perform.card_on.Goals as goal
 
 pub returns-in_err-write_acts : goal.returns-in_err-write_acts
 returns-in_err-write_acts g c =
-    let e = err_from_is_err_and c.from-residual-in_err-write_acts.result c.from-residual-in_err-write_acts.ensures.1 in unmade c.from-residual-in_err-write_acts.result e.0 _ e.1
+    let e = err_from_is_err_and c.from_residual-in_err-write_acts.result c.from_residual-in_err-write_acts.ensures.1 in unmade c.from_residual-in_err-write_acts.result e.0 _ e.1
 
 pub returns-in_err-write_end : goal.returns-in_err-write_end
 returns-in_err-write_end g c =
-    let e = err_from_is_err_and c.from-residual-in_err-write_end.result c.from-residual-in_err-write_end.ensures.1 in unmade c.from-residual-in_err-write_end.result e.0 _ e.1
+    let e = err_from_is_err_and c.from_residual-in_err-write_end.result c.from_residual-in_err-write_end.ensures.1 in unmade c.from_residual-in_err-write_end.result e.0 _ e.1
 
 pub returns : goal.returns
 returns g c =

@@ -1,4 +1,4 @@
-use Rattle.std.proofs.Common.{◌≡◌, ℕ, ◌++◌, vec_items, sym, subst, MatchResult}
+use Rattle.std.proofs.Common.{vec_items, sym, subst, MatchResult}
 use Rattle.nets.specs.Nets.{meant, net_need}
 use Rattle.phrases.specs.Cells.{Struck, RefusedShort}
 use Rattle.printing.proofs.Blocks.{blocks_written}

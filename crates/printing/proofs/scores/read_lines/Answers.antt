@@ -7,7 +7,7 @@ loop-next-preserved g c = (
   c.next_line.ensures.same ∙ c.loop-next.invariant.0,
   line_more g.T.CardKind.reading c.args.score.text.now c.loop-next.score.text.now c.args.score.at c.loop-next.score.at c.next_line.new.self.at
       (vec_items c.loop-next.lines) (vec_items c.push.new.self) c.in-Some.line c.next_line.result c.loop-next.invariant.0
-      c.next_line.ensures.result (c.in-Ok.is ∙ ap Ok c.in-Some.is) c.next_line.ensures.position c.in_ok-push.ensures.items c.loop-next.invariant.1,
+      c.next_line.ensures.result (c.in-Ok.is ∙ ap Ok c.in-Some.is) c.next_line.ensures.position c.in_ok-push-in-Some.ensures.items c.loop-next.invariant.1,
 )
 
 pub returns-in-None : goal.returns-in-None
