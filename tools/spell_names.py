@@ -16,7 +16,7 @@ NAME = r"[^\s:(){};,.\[\]|\\λ]+"
 WORD = re.compile(r"[A-Za-z0-9_'][A-Za-z0-9_'\-]*(?:[≡≢≤<+∷⊑][A-Za-z0-9_'\-]*)*")
 # made by the check, and no name of ours
 MADE = re.compile(r"^(returns|loop-|invariant|decreases|overflow|bounds|slice-bounds|offset-bounds|nonzero|ghost-|then-|else-|in-|if-)|-requires|-init$|-preserved$|-smaller$")
-ODD = {"nth-getD": "nth_get_or", "Tail-of": "tail_of"}
+ODD = {"nth-getD": "nth_get_or", "Tail-of": "tail_of", "Laid_out": "LaidOut"}
 PREFIXES = [("overflow-", "overflow_"), ("slice-bounds-", "slice_bounds-"), ("offset-bounds-", "offset_bounds-"), ("nonzero-", "nonzero_"), ("invariant-of-", "invariant_of-")]
 
 
@@ -86,7 +86,7 @@ def main(argv):
     ours = {}
     for path, text in texts.items():
         for name in declared(path, text):
-            if "-" in name and re.match(r"^[A-Za-z]", name):
+            if name in ODD or "-" in name and re.match(r"^[A-Za-z]", name):
                 ours[name] = spelled(name)
     sources = {c: sorted(n, key=len, reverse=True) for c, n in source_names(root).items()}
     out, bad = {}, []

@@ -6,7 +6,7 @@ use Rattle.plants.specs.Calls.{Filled, Outcome}
 use Rattle.kinds.specs.declared.refusals.Refusal.{Refusal}
 use Rattle.runs.specs.Plans.{put}
 use Rattle.phrases.specs.Sheets.{working_at}
-use Rattle.phrases.specs.Cells.{plan_from, strikes_from, spare_from, total, score, plan, spare, Climbed, Laid_out, Struck, Holds, mixed, Adopted, Taken, Turned}
+use Rattle.phrases.specs.Cells.{plan_from, strikes_from, spare_from, total, score, plan, spare, Climbed, LaidOut, Struck, Holds, mixed, Adopted, Taken, Turned}
 use Rattle.std.proofs.lemmas.Bool.{cases_eq}
 use Rattle.std.proofs.lemmas.Nat.{div-mul-add, mod-mul-add, div-add-mod'}
 use Rattle.plants.specs.Calls.{Flooded}
@@ -41,7 +41,7 @@ module _ {V : Type 0} (o : Ops V) (M : Meaning V) (K need : ℕ) where
         beyond = λ n le. f.others n (λ a b. omega (arith, sp.at_strikes, sp.in_all)) (λ a b. omega (arith, sp.at_spare, sp.in_all));
       }
 
-  pub laid_out : (s s₁ s₂ : List V) → total M K need ≤ length s → length s₁ ≡ length s → Flooded o 0 (strikes_from M K) o.top s s₁ → Flooded o (strikes_from M K) (plan_from M K) o.bottom s₁ s₂ → Laid_out o M K need s s₂
+  pub laid_out : (s s₁ s₂ : List V) → total M K need ≤ length s → length s₁ ≡ length s → Flooded o 0 (strikes_from M K) o.top s s₁ → Flooded o (strikes_from M K) (plan_from M K) o.bottom s₁ s₂ → LaidOut o M K need s s₂
   laid_out s s₁ s₂ fits len one two =
       let sp = spread M.outputs M.inputs K need in
       record {

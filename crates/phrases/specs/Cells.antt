@@ -72,7 +72,7 @@ module _ {V : Type 0} (o : Ops V) (M : Meaning V) (K need : ℕ) where
   RefusedShort s s' = by_refusal ⊥ ((length s < total M K need) × (s' ≡ s)) ⊥ ⊥ ⊥ ⊥ ⊥
 
   -- an accepted lay
-  pub record Laid_out (s s' : List V) : Type 0 where
+  pub record LaidOut (s s' : List V) : Type 0 where
     pub fits : total M K need ≤ length s
     pub scored : (y k : ℕ) → y < M.outputs → k < K → score o K s' y k ≡ o.top
     pub planned : (i b : ℕ) → i < M.inputs → b < K → plan o M K s' i b ≡ o.top

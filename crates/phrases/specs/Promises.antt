@@ -3,7 +3,7 @@ use Rattle.std.specs.Prelude.{◌≡◌, ℕ, ◌≤◌, List, length, Result, M
 use Rattle.kinds.specs.Kind.{Ops}
 use Rattle.plants.specs.Meaning.{Meaning}
 use Rattle.phrases.specs.Orders.{lane_at, order_answer}
-use Rattle.phrases.specs.Cells.{total, spare, Climbed, Adopted, Laid_out, Struck, Taken, Turned, RefusedShort, Fired, Unfired, Missed, Unmissed}
+use Rattle.phrases.specs.Cells.{total, spare, Climbed, Adopted, LaidOut, Struck, Taken, Turned, RefusedShort, Fired, Unfired, Missed, Unmissed}
 use Rattle.runs.specs.History.{Stage}
 use Rattle.phrases.specs.Steps.{room, Step, order_act}
 use Rattle.runs.specs.declared.acts.Act.{Act}
@@ -28,7 +28,7 @@ module _ {P V : Type 0} (o : Ops V) (meaning : P → Meaning V) (need : P → �
   Adopts ph s s' = Adopted o (meaning ph.plant) ph.horizon.beats (need ph.plant ph.horizon.beats) (fixed_in ph) (spare o (meaning ph.plant) ph.horizon.beats s) s s'
 
   abbrev pub LayCells : Phrase P → List V → List V → Result Unit Refusal → Type 0
-  LayCells ph s s' r = MatchResult r (λ _. Laid_out o (meaning ph.plant) ph.horizon.beats (need ph.plant ph.horizon.beats) s s') (λ e. RefusedShort o (meaning ph.plant) ph.horizon.beats (need ph.plant ph.horizon.beats) s s' e)
+  LayCells ph s s' r = MatchResult r (λ _. LaidOut o (meaning ph.plant) ph.horizon.beats (need ph.plant ph.horizon.beats) s s') (λ e. RefusedShort o (meaning ph.plant) ph.horizon.beats (need ph.plant ph.horizon.beats) s s' e)
 
   abbrev pub StrikesCells : Phrase P → List V → List V → Result Unit Refusal → Type 0
   StrikesCells ph s s' r = MatchResult r (λ _. Struck o (meaning ph.plant) ph.horizon.beats (need ph.plant ph.horizon.beats) s s') (λ e. RefusedShort o (meaning ph.plant) ph.horizon.beats (need ph.plant ph.horizon.beats) s s' e)
