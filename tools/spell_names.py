@@ -15,7 +15,7 @@ import sys
 NAME = r"[^\s:(){};,.\[\]|\\λ]+"
 WORD = re.compile(r"[A-Za-z0-9_'][A-Za-z0-9_'\-]*(?:[≡≢≤<+∷⊑][A-Za-z0-9_'\-]*)*")
 # made by the check, and no name of ours
-MADE = re.compile(r"^(returns|loop-|invariant|decreases|overflow|bounds|slice-bounds|offset-bounds|nonzero|ghost-|then-|else-|in-|if-)|-requires|-init$|-preserved$|-smaller$")
+MADE = re.compile(r"^(returns|loop-|invariant|decreases|overflow|bounds|slice[-_]bounds|offset[-_]bounds|nonzero|ghost-|then-|else-|in-|if-)|-requires|-init$|-preserved$|-smaller$")
 ODD = {"nth-getD": "nth_get_or", "Tail-of": "tail_of", "Laid_out": "LaidOut"}
 PREFIXES = [("overflow-", "overflow_"), ("slice-bounds-", "slice_bounds-"), ("offset-bounds-", "offset_bounds-"), ("nonzero-", "nonzero_"), ("invariant-of-", "invariant_of-")]
 
