@@ -123,15 +123,8 @@ fn which_is_named(rt: HostRuntime) -> Result<(), Fail> {
         place(0, 1, 0, zero),
         place(1, 0, 0, zero),
     ];
-    refuses(
-        &rt,
-        heap,
-        &turned,
-        2,
-        0,
-        &[0, 1],
-        "parallel places, the other way round",
-    )?;
+    let case = "parallel places, the other way round";
+    refuses(&rt, heap, &turned, 2, 0, &[0, 1], case)?;
     let equals = [
         place(2, 3, 0, five),
         place(3, 2, 0, zero),
@@ -262,67 +255,23 @@ fn space(rt: HostRuntime) -> Result<(), Fail> {
     let one = date(1);
     let named = Err(CircuitFault::Circuit(0, 1));
     let short = Err(CircuitFault::Short);
-    measures(&rt, heap, one, 2, 8, 64, 8, named, "just enough")?;
-    measures(&rt, heap, one, 2, 7, 64, 0, short, "a cell short")?;
-    measures(&rt, heap, one, 2, 8, 63, 0, short, "a byte short")?;
-    measures(&rt, heap, one, 2, 0, 0, 0, short, "nothing")?;
-    measures(
-        &rt,
-        heap,
-        one,
-        2,
-        12,
-        70,
-        8,
-        named,
-        "more than enough, refused",
-    )?;
-    measures(
-        &rt,
-        heap,
-        zero,
-        2,
-        12,
-        70,
-        8,
-        Ok(()),
-        "more than enough, accepted",
-    )?;
-    measures(
-        &rt,
-        heap,
-        zero,
-        2,
-        7,
-        64,
-        0,
-        short,
-        "a cell short of an accepted net",
-    )?;
-    measures(&rt, heap, one, 0, 1, 64, 0, short, "0 is 1, a cell short")?;
-    measures(&rt, heap, one, 0, 2, 64, 2, named, "0 is 1, enough")?;
-    measures(
-        &rt,
-        heap,
-        one,
-        65,
-        8191,
-        64,
-        0,
-        short,
-        "65 is 64, a cell short",
-    )?;
-    measures(
-        &rt,
-        heap,
-        one,
-        65,
-        8192,
-        64,
-        8192,
-        named,
-        "65 is 64, enough",
-    )
+    let cases = [
+        (one, 2, 8, 64, 8, named, "just enough"),
+        (one, 2, 7, 64, 0, short, "a cell short"),
+        (one, 2, 8, 63, 0, short, "a byte short"),
+        (one, 2, 0, 0, 0, short, "nothing"),
+        (one, 2, 12, 70, 8, named, "more than enough, refused"),
+        (zero, 2, 12, 70, 8, Ok(()), "more than enough, accepted"),
+        (zero, 2, 7, 64, 0, short, "a cell short of an accepted net"),
+        (one, 0, 1, 64, 0, short, "0 is 1, a cell short"),
+        (one, 0, 2, 64, 2, named, "0 is 1, enough"),
+        (one, 65, 8191, 64, 0, short, "65 is 64, a cell short"),
+        (one, 65, 8192, 64, 8192, named, "65 is 64, enough"),
+    ];
+    for (gain, n, cells, room, kept, wanted, case) in cases {
+        measures(&rt, heap, gain, n, cells, room, kept, wanted, case)?;
+    }
+    Ok(())
 }
 
 // One is top, so that every circuit passes.

@@ -240,48 +240,22 @@ fn room(rt: HostRuntime) -> Result<(), Fail> {
 fn clashes(rt: HostRuntime) -> Result<(), Fail> {
     let heap = rt.alloc();
     let most = usize::MAX;
-    refuses(&rt, heap, 30, 0, 2, 10, "the output in the input")?;
-    refuses(&rt, heap, 30, 2, 0, 10, "the input in the output")?;
-    refuses(&rt, heap, 30, 4, 4, 10, "one block for both")?;
-    refuses(&rt, heap, 30, 0, 8, 10, "the output into the working cells")?;
-    refuses(&rt, heap, 30, 8, 0, 10, "the input into the working cells")?;
-    refuses(
-        &rt,
-        heap,
-        30,
-        0,
-        20,
-        3,
-        "the output after the working cells",
-    )?;
-    refuses(&rt, heap, 30, 20, 0, 3, "the input after the working cells")?;
-    refuses(&rt, heap, 30, most, 3, 6, "the input at the last place")?;
-    refuses(
-        &rt,
-        heap,
-        30,
-        0,
-        most - 1,
-        6,
-        "the output near the last place",
-    )?;
-    refuses(
-        &rt,
-        heap,
-        30,
-        0,
-        3,
-        most,
-        "the working cells at the last place",
-    )?;
-    refuses(
-        &rt,
-        heap,
-        30,
-        0,
-        3,
-        most - 7,
-        "the working cells would end at 0",
-    )?;
-    refuses(&rt, heap, 30, most - 2, 0, most, "all near the last place")
+    let cases = [
+        (0, 2, 10, "the output in the input"),
+        (2, 0, 10, "the input in the output"),
+        (4, 4, 10, "one block for both"),
+        (0, 8, 10, "the output into the working cells"),
+        (8, 0, 10, "the input into the working cells"),
+        (0, 20, 3, "the output after the working cells"),
+        (20, 0, 3, "the input after the working cells"),
+        (most, 3, 6, "the input at the last place"),
+        (0, most - 1, 6, "the output near the last place"),
+        (0, 3, most, "the working cells at the last place"),
+        (0, 3, most - 7, "the working cells would end at 0"),
+        (most - 2, 0, most, "all near the last place"),
+    ];
+    for (input, output, working, case) in cases {
+        refuses(&rt, heap, 30, input, output, working, case)?;
+    }
+    Ok(())
 }
