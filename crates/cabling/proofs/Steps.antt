@@ -1,9 +1,7 @@
 -- Two calls one after the other, the second reading what the first wrote.
-use Rattle.std.proofs.Common.{◌≡◌, ℕ, ◌+◌, ◌-◌, ◌*◌, ◌^◌, ◌<◌, ◌≤◌, min, max, List, length, Ok, Err, Result, sym, ap, ◌∙◌, inl, inr, add-mul, arith}
+use Rattle.std.proofs.Common.{◌≡◌, ℕ, ◌+◌, ◌-◌, ◌*◌, ◌<◌, ◌≤◌, max, List, length, Ok, Err, Result, sym, ap, ◌∙◌, add-mul, arith}
 use Rattle.std.proofs.lemmas.Nat.{mul-le, mul-add-lt}
 use Rattle.kinds.specs.Kind.{Ops}
-use Rattle.plants.specs.Fits.{Fits}
-use Rattle.plants.specs.declared.places.Places.{Places}
 use Rattle.plants.specs.Meaning.{block}
 use Rattle.plants.specs.Calls.{Filled, Flooded, Outcome}
 use Rattle.kinds.specs.declared.refusals.Refusal.{Refusal}
@@ -38,29 +36,22 @@ module _ {T : Type 0} (o : Ops T) (K W x y n1 n2 : ℕ) (cell1 : ℕ → ℕ →
             ∙ f1.others a (λ p q. work (omega arith) (omega arith)) (λ p q. work (omega arith) (omega arith));
       }
 
--- a need that stands at the largest number is never covered
-pub unsaturated : (m p K S len : ℕ) (at : Places) → 1 ≤ m → 1 ≤ K → len < 2 ^ 64 → Fits m p K (min S (2 ^ 64 - 1)) at len → at.working + S ≤ len
-unsaturated m p K S len at h g l f = omega (arith, mul-le 1 1 m K h g)
-
--- the places of the two calls
-module _ (m p x y K n1 n2 len : ℕ) (at : Places) (need : ℕ) (f : Fits m p K need at len) (room : at.working + (max x y * K + max n1 n2) ≤ len) where
-  pub first_fits : Fits m x K n1 (record { input = at.input; output = at.working; working = at.working + max x y * K }) len
-  first_fits = record {
-    apart = inl f.input_before;
-    input_before = omega (arith, f.input_before);
-    output_before = omega (arith, mul-le x K (max x y) K (omega arith) (omega arith));
-    covered = omega arith;
-  }
-
-  pub second_fits : Fits y p K n2 (record { input = at.working; output = at.output; working = at.working + max x y * K }) len
-  second_fits = record {
-    apart = inr f.output_before;
-    input_before = omega (arith, mul-le y K (max x y) K (omega arith) (omega arith));
-    output_before = omega (arith, f.output_before);
-    covered = omega arith;
-  }
-
 -- a call whose result is that of an inner call which cannot refuse
 pub outcome_by : {T : Type 0} (r : Result Unit Refusal) (F F' D D' : Type 0) (s s' t : List T) → Outcome r F D s t → F → F' → (D → D') → Outcome r F' D' s' t
 outcome_by (Ok _) F F' D D' s s' t e f f' d = (f', d e.1)
 outcome_by (Err _) F F' D D' s s' t e f f' d = absurd (e.1 f)
+
+-- both calls: the second, which cannot refuse, reads what the first wrote and the wires that were filled in
+pub in_turn : {T : Type 0} (o : Ops T) (K W x y n1 n2 : ℕ) (cell1 : ℕ → ℕ → T) (v : T) (s0 s1 s2 s3 : List T)
+    (start wires need : ℕ) (answer : (ℕ → ℕ → T) → ℕ → ℕ → T) (cell : ℕ → ℕ → T) (r : Result Unit Refusal) (F F' : Type 0)
+    → Filled o K W x (W + max x y * K) n1 cell1 s0 s1
+    → Flooded o (W + x * K) ((y - x) * K) v s1 s2
+    → W + max x y * K ≤ length s1 → max x y * K + max n1 n2 ≤ need
+    → Outcome r F (Filled o K start wires (W + max x y * K) n2 (answer (block o s2 W K)) s2 s3) s2 s3 → F → F'
+    → ((mid : ℕ → ℕ → T) → ((l t : ℕ) → l < x → t < K → mid l t ≡ cell1 l t) → ((l t : ℕ) → x ≤ l → l < y → t < K → mid l t ≡ v)
+    → (w k : ℕ) → w < wires → k < K → answer mid w k ≡ cell w k)
+    → Outcome r F' (Filled o K start wires W need cell s0 s3) s0 s3
+in_turn o K W x y n1 n2 cell1 v s0 s1 s2 s3 start wires need answer cell r F F' f1 f2 room within e f f' chained =
+    outcome_by r F F' _ _ s2 s0 s3 e f f'
+    (λ d. two_steps o K W x y n1 n2 cell1 v s0 s1 s2 f1 f2 start wires need (answer (block o s2 W K)) cell s3 d within
+    (chained (block o s2 W K) (middle_some o K W x y n1 n2 cell1 v s0 s1 s2 f1 f2) (middle_none o K W x y n1 n2 cell1 v s0 s1 s2 f1 f2 room)))

@@ -1,6 +1,8 @@
 -- Two plants in series.
-use Rattle.std.specs.Prelude.{◌≡◌, ℕ, ◌+◌, ◌-◌, ◌*◌, ◌^◌, ◌<◌, ◌≤◌, min, max, cond, Option, MatchOption, nat_lt}
+use Rattle.std.specs.Prelude.{◌≡◌, ℕ, ◌+◌, ◌-◌, ◌*◌, ◌^◌, ◌<◌, ◌≤◌, min, max, cond, Ok, Err, Result, nat_lt}
 use Rattle.kinds.specs.Kind.{Ops}
+use Rattle.kinds.specs.declared.refusals.Refusal.{Refusal}
+use Rattle.kinds.specs.declared.refusals.Refusal.TheVariants.{Short}
 use Rattle.plants.specs.declared.places.Places.{Places}
 use Rattle.plants.specs.Fits.{Fits}
 use Rattle.plants.specs.Meaning.{Meaning, Counted, joins, wired, forward_cell, backward_cell}
@@ -40,9 +42,10 @@ pub record Laid {T : Type 0} (a b : Meaning T) (K x y : ℕ) (at : Places) (len 
   pub first : Fits a.inputs a.outputs K x inner.first len
   pub second : Fits b.inputs b.outputs K y inner.second len
 
--- nothing exactly when the places do not suit the sheet
-abbrev pub Layout : {T : Type 0} → Meaning T → Meaning T → ℕ → ℕ → ℕ → Places → ℕ → Option Inner → Type 0
-Layout a b K x y at len r = MatchOption r (Fits a.inputs b.outputs K (chain_need a b K x y) at len → ⊥) (Laid a b K x y at len)
+-- refused exactly when the places do not suit the sheet
+abbrev pub Layout : {T : Type 0} → Meaning T → Meaning T → ℕ → ℕ → ℕ → Places → ℕ → Result Inner Refusal → Type 0
+Layout a b K x y at len (Ok inner) = Laid a b K x y at len inner
+Layout a b K x y at len (Err e) = (e ≡ Short) × (Fits a.inputs b.outputs K (chain_need a b K x y) at len → ⊥)
 
 -- what the joined wires bear forward: a's answer to u, and bottom at a wire that a lacks
 abbrev pub passed : {T : Type 0} → Ops T → Meaning T → (ℕ → ℕ → T) → ℕ → ℕ → T

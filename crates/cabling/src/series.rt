@@ -20,37 +20,65 @@ struct Inner {
     second: Places,
 }
 
-// The cells of the joined wires.
-fn joined_cells(have: usize, want: usize, k: Horizon) -> usize
-    requires { (have ≤ 16) × (want ≤ 16) }
-    ensures { (result ≡ max have want * k.beats) × (result ≤ 1024) }
-{
-    have.max(want) * k.beats()
+// The joined wires as one direction has them: the plant that is called first writes `have` of
+// them, and the other reads `want`.
+#[derive(Clone, Copy)]
+struct Wires {
+    have: usize,
+    want: usize,
+    ghost few: { (have ≤ 16) × (want ≤ 16) },
+}
+
+impl Wires {
+    // The same wires in the other direction.
+    fn turned(self) -> Wires
+        ensures { (result.have ≡ self.want) × (result.want ≡ self.have) }
+    {
+        Wires {
+            have: self.want,
+            want: self.have,
+        }
+    }
+
+    fn cells(self, k: Horizon) -> usize
+        ensures { (result ≡ max self.have self.want * k.beats) × (result ≤ 1024) }
+    {
+        self.have.max(self.want) * k.beats()
+    }
+
+    // Writes `value` into the wires from `have` up to `want`, where the wires begin at `start`.
+    fn fill_rest<T: Kind>(self, k: Horizon, sheet: &mut [T], start: usize, value: T)
+        requires { start + max self.have self.want * k.beats ≤ length sheet.old }
+        ensures { Flooded T.Kind.ops (start + self.have * k.beats) ((self.want - self.have) * k.beats) value sheet.old sheet.new }
+    {
+        let beats = k.beats();
+        fill(
+            sheet,
+            start + self.have * beats,
+            self.want.saturating_sub(self.have) * beats,
+            value,
+        );
+    }
 }
 
 impl<A: Plant, B: Plant<Value = A::Value>> Series<A, B> {
-    fn cells_needed(&self, k: Horizon) -> usize
-        ensures { result ≡ chain_need (A.Plant.meaning self.now.first) (B.Plant.meaning self.now.second) k.beats (A.Plant.need self.now.first k.beats) (B.Plant.need self.now.second k.beats) }
+    // The joined wires, forward.
+    fn wires(&self) -> Wires
+        ensures { (result.have ≡ (A.Plant.meaning self.now.first).outputs) × (result.want ≡ (B.Plant.meaning self.now.second).inputs) }
     {
-        let joined = joined_cells(self.first.outputs(), self.second.inputs(), k);
-        joined.saturating_add(self.first.need(k).max(self.second.need(k)))
+        Wires {
+            have: self.first.outputs(),
+            want: self.second.inputs(),
+        }
     }
 
-    // The places of the two inner calls, or nothing where the call is to be refused.
-    fn layout(&self, k: Horizon, at: Places, len: usize) -> Option<Inner>
+    // The places of the two inner calls.
+    fn layout(&self, k: Horizon, at: Places, len: usize) -> Result<Inner, Refusal>
         ensures { Layout (A.Plant.meaning self.now.first) (B.Plant.meaning self.now.second) k.beats (A.Plant.need self.now.first k.beats) (B.Plant.need self.now.second k.beats) at len result }
     {
-        if !at.fit(
-            self.first.inputs(),
-            self.second.outputs(),
-            k,
-            self.cells_needed(k),
-            len,
-        ) {
-            return None;
-        }
-        let rest = at.working + joined_cells(self.first.outputs(), self.second.inputs(), k);
-        Some(Inner {
+        self.check_places(k, len, at)?;
+        let rest = at.working + self.wires().cells(k);
+        Ok(Inner {
             first: Places {
                 input: at.input,
                 output: at.working,
@@ -62,28 +90,6 @@ impl<A: Plant, B: Plant<Value = A::Value>> Series<A, B> {
                 working: rest,
             },
         })
-    }
-
-    // Writes `value` into the joined wires from `have` up to `want`.
-    fn fill_wires(
-        sheet: &mut [A::Value],
-        k: Horizon,
-        start: usize,
-        have: usize,
-        want: usize,
-        value: A::Value,
-    )
-        requires few { (have ≤ 16) × (want ≤ 16) }
-        requires room { start + max have want * k.beats ≤ length sheet.old }
-        ensures { Flooded A.Value.Kind.ops (start + have * k.beats) ((want - have) * k.beats) value sheet.old sheet.new }
-    {
-        let beats = k.beats();
-        fill(
-            sheet,
-            start + have * beats,
-            want.saturating_sub(have) * beats,
-            value,
-        );
     }
 }
 
@@ -105,33 +111,30 @@ impl<A: Plant, B: Plant<Value = A::Value>> Plant for Series<A, B> {
     }
 
     fn need(&self, k: Horizon) -> usize {
-        self.cells_needed(k)
+        let joined = self.wires().cells(k);
+        joined.saturating_add(self.first.need(k).max(self.second.need(k)))
     }
 
     fn forward(&self, k: Horizon, sheet: &mut [A::Value], at: Places) -> Result<(), Refusal> {
-        let Some(inner) = self.layout(k, at, sheet.len()) else {
-            return Err(Refusal::Short);
-        };
-        let have = self.first.outputs();
-        let want = self.second.inputs();
+        let inner = self.layout(k, at, sheet.len())?;
         self.first.forward(k, sheet, inner.first)?;
-        Self::fill_wires(sheet, k, at.working, have, want, A::Value::bottom());
+        let wires = self.wires();
+        wires.fill_rest(k, sheet, at.working, A::Value::bottom());
         self.second.forward(k, sheet, inner.second)
     }
 
+    // Not one function with `forward`: the parts differ in type, so that their order is no value.
     fn backward(&self, k: Horizon, sheet: &mut [A::Value], at: Places) -> Result<(), Refusal> {
-        let Some(inner) = self.layout(k, at, sheet.len()) else {
-            return Err(Refusal::Short);
-        };
-        let have = self.second.inputs();
-        let want = self.first.outputs();
+        let inner = self.layout(k, at, sheet.len())?;
         self.second.backward(k, sheet, inner.second)?;
-        Self::fill_wires(sheet, k, at.working, have, want, A::Value::top());
+        let wires = self.wires().turned();
+        wires.fill_rest(k, sheet, at.working, A::Value::top());
         self.first.backward(k, sheet, inner.first)
     }
 }
 
 // A series answers as its two plants in turn, for every kind and every two meanings.
+#[tactic(auto, using(crate::proofs::Chains::series_forward, crate::proofs::Chains::series_backward))]
 pub fn series_answers_in_turn<T: Kind>()
     ensures forward { SeriesForward T.Kind.ops }
     ensures backward { SeriesBackward T.Kind.ops }

@@ -1,6 +1,2 @@
-pub mod Pieces
-pub mod Repeats
 pub mod Rows
-pub mod Verdicts
 pub mod Impulses
-pub mod Reporting

@@ -1,4 +1,3 @@
-pub mod Copies
 pub mod Cells
 pub mod Responses
 pub mod Reports

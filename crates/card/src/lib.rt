@@ -1,9 +1,8 @@
 #![tactic(auto)]
 
 mod cells;
-mod checks;
-mod copies;
 mod reports;
 mod responses;
+mod words;
 
 pub use reports::report;

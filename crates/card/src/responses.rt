@@ -1,22 +1,14 @@
-ghost use Rattle.std.specs.Prelude.{◌≡◌, ◌+◌, ◌*◌, ◌/◌, ◌%◌, ◌<◌, ◌≤◌, ◌++◌, length, OnOk, slice_set};
+ghost use Rattle.std.specs.Prelude.{◌≡◌, ◌+◌, ◌*◌, ◌/◌, ◌%◌, ◌≤◌, ◌++◌, length, OnOk, string_bytes};
 ghost use Rattle.nets.specs.Nets.{meant, net_need};
 ghost use Rattle.card.specs.Responses.{at_once, Struck, told_responses, response_rows};
 
 use crate::cells::write_cells;
-use crate::copies::copies_of;
 use kinds::Kind;
-use links::{Counts, Link};
+use loading::{CheckedNet, copies_of};
 use nets::Net;
 use numerals::CardKind;
 use plants::{Horizon, Places, Plant};
 use std::alloc::{AllocError, Global};
-
-fn put<T: Kind>(sheet: &mut [T], at: usize, value: T)
-    requires { at < length sheet.old }
-    ensures { sheet.new ≡ slice_set sheet.old at value }
-{
-    sheet[at] = value;
-}
 
 // One in the first beat of a wire, bottom in the others.
 fn once<T: Kind>(n: usize, k: Horizon) -> T
@@ -29,13 +21,13 @@ fn once<T: Kind>(n: usize, k: Horizon) -> T
     }
 }
 
-// Writes one into the first beat of each wire of the first `cells` cells, and bottom into their other beats.
-fn strike_once<T: Kind>(sheet: &mut [T], k: Horizon, cells: usize)
-    requires { cells ≤ length sheet.old }
-    ensures { Struck T.Kind.ops k.beats cells sheet.new }
+// Writes one into the first beat of each wire, and bottom into their other beats.
+fn strike_once<T: Kind>(cells: &mut [T], k: Horizon)
+    ensures struck { Struck T.Kind.ops k.beats (length cells.old) cells.new }
+    ensures len { length cells.new ≡ length cells.old }
 {
-    for n in 0..cells {
-        put(sheet, n, once(n, k));
+    for (n, cell) in cells.iter_mut().enumerate() {
+        *cell = once(n, k);
     }
 }
 
@@ -44,14 +36,16 @@ fn respond<T: CardKind>(
     net: &Net<'_, T>,
     k: Horizon,
     sheet: &mut [T],
-    out: &mut Vec<u8>,
+    out: &mut String,
 ) -> Result<(), AllocError>
     requires { net.now.inputs * k.beats + net.now.outputs * k.beats + net_need net.now k.beats ≤ length sheet.old }
-    ensures { OnOk result (out.new.items ≡ out.old.items ++ told_responses T.Kind.ops T.CardKind.text (meant T.Kind.ops net.now) k.beats) }
+    ensures { OnOk result (string_bytes out.new ≡ string_bytes out.old ++ told_responses T.Kind.ops T.CardKind.text (meant T.Kind.ops net.now) k.beats) }
 {
-    let read = net.inputs() * k.beats();
-    let written = net.outputs() * k.beats();
-    strike_once(sheet, k, read);
+    let (inputs, outputs) = (net.inputs(), net.outputs());
+    let read = inputs * k.beats();
+    let written = outputs * k.beats();
+    strike_once(&mut sheet[..read], k);
+    // The sheet has all the cells, so the call is not refused.
     let _ = net.strike(
         k,
         sheet,
@@ -61,30 +55,20 @@ fn respond<T: CardKind>(
             working: read + written,
         },
     );
-    write_cells(sheet, read, written, k.beats(), out)?;
-    Ok(())
+    write_cells(&sheet[read..read + written], k, out)
 }
 
-// Appends the first responses of a net of these counts and links.
+// Appends the first responses of a net.
 pub(crate) fn write_responses<T: CardKind>(
     heap: Global,
-    counts: Counts,
-    links: &[Link<T>],
-    out: &mut Vec<u8>,
+    net: &CheckedNet<T>,
+    out: &mut String,
 ) -> Result<(), AllocError>
-    ensures { OnOk result (out.new.items ≡ out.old.items ++ response_rows T.Kind.ops T.CardKind.text counts links.now) }
+    ensures { OnOk result (string_bytes out.new ≡ string_bytes out.old ++ response_rows T.Kind.ops T.CardKind.text net.now.counts net.now.links.items) }
 {
-    let Ok(k) = Horizon::new(4) else {
-        return Ok(());
-    };
-    let net = Net::new(
-        links,
-        counts.transitions as usize,
-        counts.inputs as usize,
-        counts.outputs as usize,
-    );
-    let cells = net.inputs() * k.beats() + net.outputs() * k.beats() + net.need(k);
+    let k = Horizon::try_from(4).unwrap();
+    let plant = net.plant();
+    let cells = (plant.inputs() + plant.outputs()) * k.beats() + plant.need(k);
     let mut sheet = copies_of(heap, cells, T::bottom())?;
-    respond(&net, k, sheet.as_mut_slice(), out)?;
-    Ok(())
+    respond(&plant, k, sheet.as_mut_slice(), out)
 }

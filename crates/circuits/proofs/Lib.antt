@@ -3,3 +3,4 @@ pub mod Tables
 pub mod Steps
 pub mod Verdicts
 pub mod Pinned
+pub mod Lines

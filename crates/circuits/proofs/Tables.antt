@@ -6,7 +6,8 @@ use Rattle.std.proofs.lemmas.Nat.{mul-add-lt}
 use Rattle.kinds.specs.Kind.{Ops}
 use Rattle.plants.specs.Meaning.{joins}
 use Rattle.walks.specs.Walks.{best}
-use Rattle.circuits.specs.Grids.{spot, Beyond, SameTo, Tabled}
+use Rattle.circuits.specs.Grids.{spot, Beyond, SameTo, SameLoan, Kept, Tabled}
+use Rattle.circuits.specs.declared.grid.Grid.{Grid}
 use Rattle.plants.proofs.Blocks.{joins_same}
 use Rattle.circuits.proofs.Spots.{spot_below}
 
@@ -21,8 +22,8 @@ beyond_drop o end b s same h =
 
 module _ {T : Type 0} (o : Ops T) (n : ℕ) where
   -- a write into a later row leaves the rows before it
-  pub kept_more : (rows : ℕ) (b s : List T) (row t : ℕ) (v : T) → rows ≤ row → SameTo o n rows b s → SameTo o n rows b (set s (row * n + t) v)
-  kept_more rows b s row t v le same r k rn kn =
+  pub same_more : (rows : ℕ) (b s : List T) (row t : ℕ) (v : T) → rows ≤ row → SameTo o n rows b s → SameTo o n rows b (set s (row * n + t) v)
+  same_more rows b s row t v le same r k rn kn =
       let lt : r < row = omega arith in
       let ne : r * n + k ≢ row * n + t = λ e. omega (arith, mul-add-lt r n k row lt kn) in
       get_or-set_other s (row * n + t) (r * n + k) v o.bottom ne ∙ same r k rn kn
@@ -35,18 +36,48 @@ module _ {T : Type 0} (o : Ops T) (n : ℕ) where
       (λ ne. get_or-set_other s (row * n + t) (row * n + k) v o.bottom (λ q. ne (omega arith)) ∙ h k (omega arith))
       (cases_eq k t)
 
-  -- the row holds F up to column t; the rows before it and the cells after the table are kept
-  abbrev pub Filling : ℕ → (ℕ → T) → List T → ℕ → List T → Type 0
-  Filling row F b t s = ((k : ℕ) → k < t → spot o n s row k ≡ F k) × SameTo o n row b s × Beyond o (2 * n * n) b s
+module _ {T : Type 0} where
+  pub loan_more : (a b c : Grid T) → SameLoan a b → SameLoan b c → SameLoan a c
+  loan_more a b c p q = (q.0 ∙ p.0, q.1 ∙ p.1)
 
-  pub filling_more : (row : ℕ) (F : ℕ → T) (b s d : List T) (t : ℕ) (v : T) → 2 * n * n ≤ length s → row < 2 * n → t < n → d ≡ set s (row * n + t) v → v ≡ F t
-      → Filling row F b t s → Filling row F b (t + 1) d
-  filling_more row F b s d t v fits within tn e value h = subst (Filling row F b (t + 1)) (sym e) (
-    row_more F s row t v (spot_below n (2 * n) row t (length s) fits within tn) value h.0,
-    kept_more row b s row t v (let r = row in omega arith) h.1,
-    beyond_more o (2 * n * n) b s (row * n + t) v (spot_below n (2 * n) row t (2 * n * n) (let r = n in omega arith) within tn) h.2,
-  )
+  module _ {o : Ops T} where
+    pub kept_more : (rows more : ℕ) (a b c : Grid T) → rows ≤ more → Kept o rows a b → Kept o more b c → Kept o rows a c
+    kept_more rows more a b c le p q =
+        let same = subst (λ k. SameTo o k more b.cells.now c.cells.now) p.loan.0 q.same in
+        let beyond = subst (λ k. Beyond o (2 * k * k) b.cells.now c.cells.now) p.loan.0 q.beyond in
+        record {
+          loan = loan_more a b c p.loan q.loan;
+          same = λ r t rn tn. same r t (omega arith) tn ∙ p.same r t rn tn;
+          beyond = λ j far. beyond j far ∙ p.beyond j far;
+        }
 
+    pub kept_on : (a b c : Grid T) → Kept o a.n a b → Kept o b.n b c → Kept o a.n a c
+    kept_on a b c p q = kept_more a.n a.n a b c (omega arith) p (subst (λ k. Kept o k b c) p.loan.0 q)
+
+module _ {T : Type 0} (o : Ops T) where
+  -- a row of b holds F up to column t, and the rows before it are kept
+  pub record Filling (row : ℕ) (F : ℕ → T) (t : ℕ) (b s : Grid T) : Type 0 where
+    pub filled : (k : ℕ) → k < t → spot o b.n s.cells.now row k ≡ F k
+    pub kept : Kept o row b s
+
+  pub filling_more : (row : ℕ) (F : ℕ → T) (b s d : Grid T) (t : ℕ) (v : T) → row < 2 * b.n → t < b.n → SameLoan s d → d.cells.now ≡ set s.cells.now (row * s.n + t) v → v ≡ F t
+      → Filling row F t b s → Filling row F (t + 1) b d
+  filling_more row F b s d t v within tn loan e value h =
+      let m = h.kept.loan.0 in
+      let n = b.n in
+      let fits : 2 * n * n ≤ length s.cells.now = subst (λ k. 2 * k * k ≤ length s.cells.now) m s.room in
+      let now : d.cells.now ≡ set s.cells.now (row * n + t) v = e ∙ ap (λ k. set s.cells.now (row * k + t) v) m in
+      record {
+        filled = subst (λ (l : List T). (k : ℕ) → k < t + 1 → spot o n l row k ≡ F k) (sym now)
+            (row_more o n F s.cells.now row t v (spot_below n (2 * n) row t (length s.cells.now) fits within tn) value h.filled);
+        kept = record {
+          loan = loan_more b s d h.kept.loan loan;
+          same = subst (SameTo o n row b.cells.now) (sym now) (same_more o n row b.cells.now s.cells.now row t v (omega arith) h.kept.same);
+          beyond = subst (Beyond o (2 * n * n) b.cells.now) (sym now) (beyond_more o (2 * n * n) b.cells.now s.cells.now (row * n + t) v (spot_below n (2 * n) row t (2 * n * n) (omega arith) within tn) h.kept.beyond);
+        };
+      }
+
+module _ {T : Type 0} (o : Ops T) (n : ℕ) where
   -- one row more
   pub tabled_more : (A : ℕ → ℕ → T) (b s : ℕ) (c d : List T) → 0 < s
       → ((r t : ℕ) → r < n → t < n → spot o n c r t ≡ A r t)
@@ -68,10 +99,3 @@ module _ {T : Type 0} (o : Ops T) (n : ℕ) where
 
       before : (k ≡ s → ⊥) → spot o n d (n + k) t ≡ best o n A k t b
       before ne = let lt : k < s = omega arith in kept (n + k) t (omega arith) tn ∙ inv k t lt tn
-
-  -- the first row, where the column before stands
-  pub tabled_first : (b : ℕ) (c d : List T) → b < n → ((t : ℕ) → t < n → spot o n d n t ≡ spot o n c t b) → SameTo o n n c d → Tabled o n (spot o n d) b 1 d
-  tabled_first b c d bn copied kept k t ks tn =
-      let none : k ≡ 0 = omega arith in
-      let row : n + k ≡ n = omega arith in
-      ap (λ q. spot o n d q t) row ∙ copied t tn ∙ sym (kept t b tn bn) ∙ ap (λ q. best o n (spot o n d) q t b) (sym none)

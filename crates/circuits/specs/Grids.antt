@@ -1,8 +1,10 @@
 -- Cells by row and column, n to a row.
-use Rattle.std.specs.Prelude.{◌≡◌, ℕ, suc, ◌+◌, ◌*◌, ◌<◌, ◌≤◌, List, ◌∷◌, ◌++◌, length, drop, slice_index_or}
+use Rattle.std.specs.Prelude.{◌≡◌, ℕ, suc, ◌+◌, ◌*◌, ◌<◌, ◌≤◌, List, ◌∷◌, ◌++◌, length, drop, slice_index_or, Option, Some, None, MatchOption}
 use Rattle.kinds.specs.Kind.{Ops, AtMost}
 use Rattle.walks.specs.Walks.{AllBelow, best}
-use Rattle.walks.specs.Searches.{Greedily}
+use Rattle.walks.specs.Searches.{Greedily, Sought}
+use Rattle.circuits.specs.declared.grid.Grid.{Grid}
+use Rattle.circuits.specs.declared.search.Walk.{Walk}
 
 -- a cell, bottom beyond the end
 abbrev pub cell : {T : Type 0} → Ops T → List T → ℕ → T
@@ -35,3 +37,22 @@ pub record Listed {T : Type 0} (o : Ops T) (n : ℕ) (A : ℕ → ℕ → T) (st
   pub below : AllBelow n ts
   pub greedy : Greedily o n A o.one start ts start
   pub written : list' ≡ (start ∷ ts) ++ drop (suc more) list
+
+-- the same cells are lent, in rows of the same length
+abbrev pub SameLoan : {T : Type 0} → Grid T → Grid T → Type 0
+SameLoan before after = (after.n ≡ before.n) × (after.cells.ghost_name ≡ before.cells.ghost_name)
+
+-- the rows below `rows` and the cells after the table are the same
+pub record Kept {T : Type 0} (o : Ops T) (rows : ℕ) (before after : Grid T) : Type 0 where
+  pub loan : SameLoan before after
+  pub same : SameTo o before.n rows before.cells.now after.cells.now
+  pub beyond : Beyond o (2 * before.n * before.n) before.cells.now after.cells.now
+
+-- the first number below n for which P does not hold
+abbrev pub FirstFailing : (ℕ → Type 0) → ℕ → Option ℕ → Type 0
+FirstFailing P n r = MatchOption r ((k : ℕ) → k < n → P k) (λ m. (m < n) × ((k : ℕ) → k < m → P k) × (P m → ⊥))
+
+-- the first of the shortest high closed walks from the starts below `upto`
+abbrev pub Found : {T : Type 0} → Ops T → ℕ → (ℕ → ℕ → T) → ℕ → Option Walk → Type 0
+Found o n A upto None = Sought o n A upto 0 n
+Found o n A upto (Some w) = (w.more < n) × Sought o n A upto w.start w.more

@@ -4,13 +4,12 @@ ghost use Rattle.std.specs.Prelude.{◌≡◌, ◌≤◌, min, max};
 ghost use Rattle.circuits.specs.Checks.{Checked};
 ghost use Rattle.circuits.specs.Faults.{refusal_of};
 
-use crate::naming::name;
-use crate::rows::{fill_rows, load};
-use crate::search::search;
+use crate::grid::Grid;
 use kinds::{Kind, Refusal};
 use links::Link;
 
 mod cells;
+mod grid;
 mod naming;
 mod rows;
 mod search;
@@ -24,28 +23,14 @@ pub enum CircuitFault {
     Circuit(usize, usize),
 }
 
-impl CircuitFault {
-    // The refusal that the fault stands for.
-    pub fn refusal(self) -> Refusal
-        ensures { result ≡ refusal_of self }
-    {
-        match self {
+impl From<CircuitFault> for Refusal {
+    ghost from_gives = { λ f r. r ≡ refusal_of f };
+
+    fn from(fault: CircuitFault) -> Refusal {
+        match fault {
             CircuitFault::Short => Refusal::Short,
             CircuitFault::Circuit(_, _) => Refusal::Circuit,
         }
-    }
-}
-
-// A count of transitions, brought to the nearest of 1 to 64.
-fn limited(transitions: usize) -> usize
-    ensures { result ≡ max 1 (min transitions 64) }
-{
-    if transitions < 1 {
-        1
-    } else if transitions > 64 {
-        64
-    } else {
-        transitions
     }
 }
 
@@ -62,18 +47,19 @@ fn check<T: Kind>(
     if cells.len() < 2 * n * n || list.len() < 64 {
         return Err(CircuitFault::Short);
     }
-    load(links, n, cells);
-    let walk = search(cells, n);
-    if walk.more == n {
+    let mut grid = Grid { cells, n };
+    grid.load(links);
+    let Some(walk) = grid.search() else {
         return Ok(());
-    }
-    fill_rows(cells, n, walk.start);
-    name(cells, n, walk, list);
+    };
+    grid.fill_rows(walk.start);
+    grid.name(walk, list);
     Err(CircuitFault::Circuit(walk.start, walk.more + 1))
 }
 
 // Whether every circuit of tokenless places has a gain of at most one. Else the first of the
-// shortest that have not is named: the list then begins with its transitions.
+// shortest that have not is named: the list then begins with its transitions. Cells and list are
+// lent, as no heap is used here.
 pub fn check_circuits<T: Kind>(
     links: &[Link<T>],
     transitions: usize,
@@ -82,5 +68,5 @@ pub fn check_circuits<T: Kind>(
 ) -> Result<(), CircuitFault>
     ensures { Checked T.Kind.ops (max 1 (min transitions 64)) links.now cells.old cells.new list.old list.new result }
 {
-    check(links, limited(transitions), cells, list)
+    check(links, transitions.clamp(1, 64), cells, list)
 }

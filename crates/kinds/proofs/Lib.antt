@@ -1,1 +1,2 @@
 pub mod ChannelSets
+pub mod Hex

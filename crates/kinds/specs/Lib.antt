@@ -8,3 +8,4 @@ pub mod BitLaws
 pub mod DateLaws
 pub mod Chain
 pub mod LevelLaws
+pub mod Shown

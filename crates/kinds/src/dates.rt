@@ -3,7 +3,7 @@ ghost use Rattle.std.specs.Prelude.{◌≡◌, ◌≤◌};
 pub mod kind;
 
 // A tick: the milliseconds 0 to 1,000,000.
-#[derive(Clone, Copy, PartialEq, Eq, Debug)]
+#[derive(Clone, Copy, PartialEq, Eq, PartialOrd, Ord, Debug)]
 pub struct Tick {
     value: u32,
     ghost ok: { value ≤ 1000000 },
@@ -19,7 +19,7 @@ impl Tick {
 }
 
 // A date: never, a tick, or open, in this rising order.
-#[derive(Clone, Copy, PartialEq, Eq, Debug)]
+#[derive(Clone, Copy, PartialEq, Eq, PartialOrd, Ord, Debug)]
 pub enum Date {
     Never,
     At(Tick),

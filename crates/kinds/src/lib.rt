@@ -7,6 +7,7 @@ mod channels;
 mod dates;
 mod levels;
 mod refusals;
+mod shown;
 
 pub use channels::Channels;
 pub use dates::{Date, Tick};

@@ -30,11 +30,12 @@ pub enum Refusal {
     NoOrder = 24,
 }
 
-impl Refusal {
-    // The number that stands for a refusal on the card.
-    pub fn number(self) -> u8
-        ensures { result ≡ code self }
-    {
-        self as u8
+// The number that stands for a refusal on the card.
+impl From<Refusal> for u8 {
+    ghost from_gives = { λ r n. n ≡ code r };
+
+    fn from(refusal: Refusal) -> u8 {
+        // An enum's number is read by `as` alone.
+        refusal as u8
     }
 }

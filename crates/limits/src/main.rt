@@ -21,9 +21,7 @@ fn add(text: &mut Vec<u8>, line: &[u8]) -> anyhow::Result<()> {
 }
 
 fn add_times(text: &mut Vec<u8>, times: &[u8], line: &[u8]) -> anyhow::Result<()> {
-    let Some(times) = read_number(times) else {
-        return Err(anyhow!("a count of five digits is wanted"));
-    };
+    let times = read_number(times).ok_or_else(|| anyhow!("a count of five digits is wanted"))?;
     for _ in 0..times {
         add(text, line)?;
     }

@@ -1,5 +1,5 @@
 -- The lines of a block of cells.
-use Rattle.std.specs.Prelude.{ℕ, zero, suc, ◌+◌, ◌/◌, ◌%◌, List, [], ◌∷◌, Some, None, Option}
+use Rattle.std.specs.Prelude.{ℕ, ◌+◌, ◌/◌, ◌%◌, List, [], ◌∷◌}
 use Rattle.listing.specs.declared.lines.Block.{Block}
 use Rattle.listing.specs.declared.lines.CardLine.{CardLine}
 use Rattle.listing.specs.declared.lines.CardLine.TheVariants.{Cell}
@@ -12,9 +12,3 @@ lines_at block k n (x ∷ xs) = Cell block (n / k) (n % k) x ∷ lines_at block 
 -- the lines of a block, by wire, then beat
 abbrev pub block_lines : {T : Type 0} → Block → ℕ → List T → List (CardLine T)
 block_lines block k cells = lines_at block k 0 cells
-
--- the element at an index, if there is one
-abbrev pub nth : {A : Type 0} → List A → ℕ → Option A
-nth [] i = None
-nth (x ∷ xs) zero = Some x
-nth (x ∷ xs) (suc i) = nth xs i

@@ -10,7 +10,7 @@ use Rattle.listing.specs.declared.lines.Block.TheVariants.{Plan, Strikes}
 use Rattle.listing.specs.declared.lines.Spot.{Spot}
 use Rattle.listing.specs.declared.lines.CardLine.{CardLine}
 use Rattle.listing.specs.declared.lines.CardLine.TheVariants.{Answered, Cell, Refused}
-use Rattle.listing.specs.FaultLines.{fault_text}
+use Rattle.texts.specs.FaultLines.{fault_text}
 
 -- D, A, F and M
 abbrev pub event_letter : Event → ℕ

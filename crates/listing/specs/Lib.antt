@@ -1,3 +1,3 @@
-pub mod FaultLines
+pub mod FaultRows
 pub mod CardLines
 pub mod BlockLines

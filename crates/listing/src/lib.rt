@@ -5,5 +5,5 @@ mod faults;
 mod lines;
 
 pub use blocks::block_line;
-pub use faults::fault_line;
+pub use faults::refused;
 pub use lines::{Block, CardLine, Event, Spot};

@@ -1,3 +1,2 @@
-pub mod Repeats
 pub mod Verdicts
 pub mod Readings

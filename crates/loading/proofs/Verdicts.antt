@@ -1,5 +1,5 @@
 -- What a refused check says of the circuits.
-use Rattle.std.proofs.Common.{◌≡◌, ℕ, ◌*◌, ◌≤◌, min, max, List, length, Err, arith}
+use Rattle.std.proofs.Common.{◌≡◌, ℕ, ◌*◌, ◌≤◌, min, max, List, length, Ok, Err, Result, is_ok, arith, MatchBool}
 use Rattle.std.proofs.lemmas.Nat.{mul-le}
 use Rattle.kinds.specs.Kind.{Ops}
 use Rattle.links.specs.declared.Link.{Link}
@@ -15,10 +15,9 @@ cells_suffice t cells e =
     let double : 2 * max 1 (min t 64) ≤ 128 = omega arith in
     omega (arith, mul-le (2 * max 1 (min t 64)) (max 1 (min t 64)) 128 64 double few)
 
--- with room enough, a refusal means that some circuit does not pass
-pub refuted : {T : Type 0} (o : Ops T) (n : ℕ) (links : List (Link T)) (cells cells' : List T) (list list' : List ℕ) (e : CircuitFault)
-    → Roomy n cells list → Checked o n links cells cells' list list' (Err e) → Passes o n links → ⊥
-refuted o n links cells cells' list list' Short room h p = h.0 room
-refuted o n links cells cells' list list' (Circuit start count) room h p =
-    let faulty = h.2.1.faulty in
-    faulty.1.high (p faulty.0 faulty.1.circuit)
+-- with room enough, the answer says whether every circuit passes
+pub judged : {T : Type 0} (o : Ops T) (n : ℕ) (links : List (Link T)) (cells cells' : List T) (list list' : List ℕ) (r : Result (Unit {0}) CircuitFault)
+    → Roomy n cells list → Checked o n links cells cells' list list' r → MatchBool (is_ok r) (Passes o n links) (Passes o n links → ⊥)
+judged o n links cells cells' list list' (Ok _) room h = h.2
+judged o n links cells cells' list list' (Err Short) room h = λ p. h.0 room
+judged o n links cells cells' list list' (Err (Circuit start count)) room h = λ p. let faulty = h.2.1.faulty in faulty.1.high (p faulty.0 faulty.1.circuit)

@@ -22,10 +22,18 @@ use Rattle.texts.specs.declared.nets.ValueKind.TheVariants.{Dates, Levels, Sets}
 use Rattle.texts.specs.declared.nets.Header.{Header}
 use Rattle.texts.specs.Lines.{past}
 use Rattle.texts.specs.NetTexts.{After, header_from, links_from}
-use Rattle.loading.specs.declared.nets.CheckedNet.{CheckedNet}
-use Rattle.loading.specs.declared.nets.AnyNet.{AnyNet}
-use Rattle.loading.specs.declared.nets.AnyNet.TheVariants.{Dates as OfDates, Levels as OfLevels, Sets as OfSets}
+use Rattle.loading.specs.declared.errors.LoadError.{LoadError}
+use Rattle.loading.specs.declared.errors.LoadError.TheVariants.{Faulty, OutOfMemory}
+use Rattle.loading.specs.declared.checked_nets.CheckedNet.{CheckedNet}
+use Rattle.loading.specs.declared.checked_nets.AnyNet.{AnyNet}
+use Rattle.loading.specs.declared.checked_nets.AnyNet.TheVariants.{Dates as OfDates, Levels as OfLevels, Sets as OfSets}
 use Rattle.loading.specs.Copies.{copies}
+
+-- where memory suffices, P holds of the net or the fault
+abbrev pub OnText : {N : Type 0} → Result N LoadError → (Result N Fault → Type 0) → Type 0
+OnText (Ok net) P = P (Ok net)
+OnText (Err (Faulty f)) P = P (Err f)
+OnText (Err (OutOfMemory want)) P = Unit {0}
 
 -- a circuit that cannot settle is a fault of the whole text
 abbrev pub circuit_fault : Fault

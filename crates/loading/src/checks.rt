@@ -17,13 +17,11 @@ pub(crate) fn passes<T: Kind>(
 {
     let mut cells = copies_of(heap, 8192, T::bottom())?;
     let mut list = [0u8; 64];
-    match check_circuits(
+    let checked = check_circuits(
         links,
-        counts.transitions as usize,
+        usize::from(counts.transitions),
         cells.as_mut_slice(),
         &mut list,
-    ) {
-        Ok(()) => Ok(true),
-        Err(_) => Ok(false),
-    }
+    );
+    Ok(checked.is_ok())
 }

@@ -8,8 +8,6 @@ pub fn copies_of<L: Copy>(heap: Global, count: usize, value: L) -> Result<Vec<L>
     ensures { IfOk result (λ v. v.items ≡ copies count value) }
 {
     let mut all = Vec::new(heap);
-    for _made in 0..count {
-        all.push(value)?;
-    }
+    all.resize(count, value)?;
     Ok(all)
 }

@@ -1,10 +1,12 @@
 #![tactic(auto)]
 
+mod checked_nets;
 mod checks;
 mod copies;
+mod errors;
 mod loads;
-mod nets;
 
+pub use checked_nets::{AnyNet, CheckedNet};
 pub use copies::copies_of;
+pub use errors::LoadError;
 pub use loads::load;
-pub use nets::{AnyNet, CheckedNet};

@@ -1,6 +1,6 @@
 -- The turns of a call one after the other.
 -- where the blocks lie, by the way
-use Rattle.std.proofs.Common.{◌≡◌, ℕ, suc, ◌+◌, ◌-◌, ◌*◌, ◌<◌, ◌≤◌, ◌⊎◌, List, get_or, sym, refl, ap, ◌∙◌, subst, ap₂, inl, inr, ⊎_elim, add-mul, arith}
+use Rattle.std.proofs.Common.{◌≡◌, ℕ, suc, ◌+◌, ◌-◌, ◌*◌, ◌<◌, ◌≤◌, ◌⊎◌, List, get_or, sym, ap, ◌∙◌, subst, ap₂, inl, inr, ⊎_elim, add-mul, arith}
 use Rattle.std.proofs.lemmas.Bool.{cases_eq, cases_lt}
 use Rattle.std.proofs.lemmas.List.{get_or_past}
 use Rattle.std.proofs.lemmas.Nat.{mul-add-lt}
@@ -20,9 +20,10 @@ use Rattle.routes.proofs.Lists.{acting_same}
 use Rattle.routes.proofs.Superposed.{answers}
 use Rattle.routes.proofs.Turns.{relaxed_same, states_at, states_length}
 use Rattle.nets.specs.Nets.{meant, net_need, given_of, asked_of, reads_of, writes_of, answer_cell, staged, driven_by, Driven}
-use Rattle.nets.specs.Stages.{cell, Laid}
+use Rattle.nets.specs.Stages.{cell}
 use Rattle.nets.specs.Turns.{rows, Played, Blank}
 use Rattle.nets.specs.declared.net.Net.{Net}
+use Rattle.nets.specs.declared.stage.Stage.{Stage}
 use Rattle.nets.proofs.Legs.{rows_at, rows_length, none_both}
 use Rattle.nets.proofs.Rows.{other_beat, row_before, row_apart, beat_below, beat_twice, beat_other}
 
@@ -35,12 +36,6 @@ pub record Placed {T : Type 0} (s : Net T) (way : Way) (K : ℕ) (at : Places) (
 pub placed : {T : Type 0} (s : Net T) (way : Way) (K : ℕ) (at : Places) (len : ℕ) → Fits s.inputs s.outputs K (net_need s K) at len → Placed s way K at len
 placed s Forth K at len f = record { apart = f.apart; given_before = f.input_before; asked_before = f.output_before; covered = f.covered }
 placed s Back K at len f = record { apart = ⊎_elim (λ x. inr x) (λ x. inl x) f.apart; given_before = f.output_before; asked_before = f.input_before; covered = f.covered }
-
--- a turn of a call that fits
-pub staged_laid : {T : Type 0} (s : Net T) (way : Way) (K turn : ℕ) (at : Places) (len : ℕ) → K ≤ 64 → turn < K → Fits s.inputs s.outputs K (net_need s K) at len → Laid (staged s way K at turn) len
-staged_laid s way K turn at len few h f =
-    let p = placed s way K at len f in
-    record { turn_within = h; beat_within = beat_below way K turn h; few_beats = few; given_fits = p.given_before; asked_fits = p.asked_before; working_fits = p.covered }
 
 module _ {T : Type 0} {o : Ops T} (laws : Laws o) (s : Net T) (way : Way) (K : ℕ) (at : Places) (len : ℕ) (fits : Fits s.inputs s.outputs K (net_need s K) at len) where
   -- the cells asked for and the given cells stand before the working cells, and apart
@@ -119,16 +114,6 @@ module _ {T : Type 0} {o : Ops T} (laws : Laws o) (s : Net T) (way : Way) (K : �
           (λ w h e. let low = mul-add-lt w K (beat_of way K k) (writes_of way s) h (beat_below way K k now) in oo (omega arith) (omega arith)) ∙ dr.others a oo ow;
     }
 
-  -- the call begins with blank cells
-  pub driven_none : (turn : ℕ) (s0 s1 : List T) → Blank o (staged s way K at turn) s0 s1 → Driven o s way K at 0 s1 s1
-  driven_none turn s0 s1 blank = record {
-    rows = λ j t h tn. absurd (omega arith);
-    blank = λ j t _ jK tn. blank.rows j t jK tn;
-    strikes = λ w j h jk. absurd (omega arith);
-    silent = λ w j h _ jK. blank.asked w (beat_of way K j) h (beat_below way K j jK);
-    others = λ a oo ow. refl;
-  }
-
 -- the answer by turns is the answer of the plant
 answered : {T : Type 0} {o : Ops T} (laws : Laws o) (s : Net T) (way : Way) (K : ℕ) (at : Places) (sheet : List T) (w k : ℕ) → w < writes_of way s → k < K
     → answer o way s.transitions (reads_of way s) (writes_of way s) s.links.now (driven_by o way K at sheet) w (beat_of way K k) ≡ answer_cell o way s K (block o sheet (given_of way at) K) w k
@@ -153,3 +138,11 @@ module _ {T : Type 0} {o : Ops T} (laws : Laws o) (s : Net T) (way : Way) (K : �
         ∙ answer_same o s way K _ _ w k g (λ i j im jK. blank.others (given_of way at + (i * K + j)) (given_out laws s way K at len fits i j im jK) (given_low laws s way K at len fits i j im jK));
     others = λ a oo ow. dr.others a oo ow ∙ blank.others a oo ow;
   }
+
+-- the sheet that a floor gives back
+module _ {T : Type 0} {o : Ops T} (before x y : List T) (back : x ≡ y) where
+  pub driven_back : (s : Net T) (way : Way) (K : ℕ) (at : Places) (k : ℕ) → Driven o s way K at k before y → Driven o s way K at k before x
+  driven_back s way K at k = subst (Driven o s way K at k before) (sym back)
+
+  pub blank_back : (g h : Stage) → g ≡ h → Blank o g before y → Blank o h before x
+  blank_back g h e b = subst (Blank o h before) (sym back) (subst (λ st. Blank o st before y) e b)

@@ -34,12 +34,6 @@ module _ {T : Type 0} (g : Stage) (end : ℕ) (laid : Laid g end) where
       let less : g.turn - l.tokens < g.turn = omega arith in
       omega (arith, mul-add-lt (g.turn - l.tokens) g.n (tail g.way l) g.turn less e.0)
 
-  pub source_below : (leg : Leg) (l : Link T) → takes_part leg g l ≡ true → source leg g l < end
-  source_below Into l on = let q = given_below g end laid (tail g.way l) (into_ends g.way g.n g.reads l on).0 in let r = row_end g end laid in omega arith
-  source_below Wait l on = let q = wait_source l on in let r = row_end g end laid in let b = turn_row g end laid in omega arith
-  source_below Glide l on = let f = tail_ends g.way g.n l on in let r = row_end g end laid in omega arith
-  source_below Out l on = let f = out_ends g.way g.n g.writes l on in let r = row_end g end laid in let b = turn_row g end laid in omega arith
-
   pub target_below : (leg : Leg) (l : Link T) → takes_part leg g l ≡ true → target leg g l < end
   target_below Into l on = let f = into_ends g.way g.n g.reads l on in let r = row_end g end laid in let b = turn_row g end laid in omega arith
   target_below Wait l on = let f = wait_parts l on in let r = row_end g end laid in let b = turn_row g end laid in omega arith

@@ -1,8 +1,8 @@
 pub mod Rows
 pub mod Geometry
+pub mod Floors
 pub mod Sweeps
 pub mod Legs
-pub mod Copies
 pub mod Settles
 pub mod Plays
 pub mod Drives

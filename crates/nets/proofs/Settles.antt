@@ -1,17 +1,34 @@
 -- The rounds of a turn, in the sheet.
-use Rattle.std.proofs.Common.{◌≡◌, ℕ, zero, suc, ◌+◌, ◌-◌, ◌*◌, ◌<◌, ◌≤◌, Bool, true, List, sym, refl, ap, ◌∙◌, ap₂, subst₂, arith}
+use Rattle.std.proofs.Common.{◌≡◌, ℕ, zero, suc, ◌+◌, ◌-◌, ◌*◌, ◌<◌, ◌≤◌, Bool, true, false, List, length, sym, refl, ap, ◌∙◌, ap₂, subst, subst₂, ⊎_elim, arith}
+use Rattle.std.proofs.lemmas.Bool.{cases_lt}
+use Rattle.std.proofs.lemmas.List.Edits.{length-between, get_or-between}
+use Rattle.std.proofs.lemmas.Slice.Zip.{length-zip, get_or-zip}
+use Rattle.std.specs.Bool.{MatchBool}
+use Rattle.std.specs.List.{CopiedTo, SameBelow, SameFrom, slice_range, zip, AllWithin, HoldsAt}
 use Rattle.kinds.specs.Kind.{Ops, Laws}
 use Rattle.links.specs.declared.Link.{Link}
 use Rattle.plants.specs.Calls.{Outside}
 use Rattle.routes.specs.Ways.{both, flow, relaxed}
 use Rattle.routes.specs.declared.Way.{Way}
 use Rattle.routes.proofs.Turns.{flow_same}
+use Rattle.nets.specs.Floors.{SameFloor}
 use Rattle.nets.specs.Stages.{cell, row_cell, Laid, Swept}
+use Rattle.nets.specs.declared.floor.Floor.{Floor}
 use Rattle.nets.specs.Turns.{Still, Relaxed, Settled}
 use Rattle.nets.specs.declared.stage.Leg.TheVariants.{Glide}
 use Rattle.nets.specs.declared.stage.Stage.{Stage}
+use Rattle.nets.proofs.Floors.{floor_more, at_floor}
 use Rattle.nets.proofs.Legs.{still_same, row_glide, glide_kept}
 use Rattle.nets.proofs.Rows.{turn_row}
+
+-- a row of n cells is copied to another place
+pub copied_over : {T : Type 0} (o : Ops T) (row spare n : ℕ) (before after : List T)
+    → CopiedTo before after row spare (row + n - row) × SameBelow before after spare × SameFrom before after (spare + (row + n - row))
+    → ((t : ℕ) → t < n → cell o after (spare + t) ≡ cell o before (row + t)) × ((a : ℕ) → Outside spare n a → cell o after a ≡ cell o before a)
+copied_over o row spare n before after h = (
+  (λ t tn. h.0 (spare + t) o.bottom (omega arith) (omega arith) ∙ ap (λ k. cell o before (row + k)) (let e : spare + t - spare ≡ t = omega arith in e)),
+  (λ a out. ⊎_elim (λ lt. h.1 a o.bottom lt) (λ le. h.2 a o.bottom (let beyond : a < spare + n → ⊥ = λ q. out le q in omega arith)) (cases_lt a spare)),
+)
 
 module _ {T : Type 0} {o : Ops T} (laws : Laws o) (g : Stage) (end : ℕ) (laid : Laid g end) (links : List (Link T)) (s0 s1 s2 : List T) (stable : Bool) where
   -- the row is copied to the spare row, swept, and compared with it
@@ -67,3 +84,42 @@ module _ {T : Type 0} (o : Ops T) (g : Stage) (links : List (Link T)) (before s0
             ∙ ap (λ k. relaxed o g.way g.n links k (row_cell o g before) t) back;
         others = next.others;
       }
+
+-- a floor b after s rounds
+pub record Settling {T : Type 0} (o : Ops T) (b : Floor T) (s : ℕ) (f : Floor T) : Type 0 where
+  pub floor : SameFloor b f
+  pub settled : Settled o b.stage b.links.now s b.sheet.now f.sheet.now
+
+module _ {T : Type 0} (o : Ops T) (b f d : Floor T) (stable : Bool) (s r : ℕ) (inv : Settling o b s f) (same : SameFloor f d)
+    (round : Relaxed o f.stage f.links.now f.sheet.now d.sheet.now stable) where
+  again : Relaxed o b.stage b.links.now f.sheet.now d.sheet.now stable
+  again = at_floor (λ g links. Relaxed o g links f.sheet.now d.sheet.now stable) b f inv.floor round
+
+  pub settling_round : suc s ≡ r → Settling o b r d
+  settling_round e = record {
+    floor = floor_more b f d inv.floor same;
+    settled = settled_round o b.stage b.links.now b.sheet.now f.sheet.now d.sheet.now stable s r e inv.settled again;
+  }
+
+  pub settling_early : s ≤ r → stable ≡ true → Settling o b r d
+  settling_early le e = record {
+    floor = floor_more b f d inv.floor same;
+    settled = settled_early o b.stage b.links.now b.sheet.now f.sheet.now d.sheet.now stable s r le e inv.settled again;
+  }
+
+-- two rows compared cell by cell
+pub stable_rows : {T : Type 0} (o : Ops T) (way : Way) (xs : List T) (row spare n : ℕ) (r : Bool) → row + n ≤ length xs → spare + n ≤ length xs
+    → (let all = zip (slice_range xs row (row + n)) (slice_range xs spare (spare + n)) in
+    MatchBool r (AllWithin (λ p. Still o way p.0 p.1) all 0 (length all)) ((k : ℕ) × (k < length all) × HoldsAt (λ p. Unit {0}) all k))
+    → r ≡ true → (t : ℕ) → t < n → Still o way (cell o xs (row + t)) (cell o xs (spare + t))
+stable_rows {T} o way xs row spare n false fa fb h e t tn = cc
+stable_rows {T} o way xs row spare n true fa fb h e t tn =
+    let d : T × T = (o.bottom, o.bottom) in
+    let a = slice_range xs row (row + n) in
+    let b = slice_range xs spare (spare + n) in
+    let la = length-between xs row (row + n) fa in
+    let lb = length-between xs spare (spare + n) fb in
+    let pair = get_or-zip a b t d (omega arith) (omega arith)
+    ∙ ap₂ (λ x y. (x, y)) (get_or-between xs row (row + n) t o.bottom (omega arith)) (get_or-between xs spare (spare + n) t o.bottom (omega arith))
+    in
+    subst (λ p. Still o way p.0 p.1) pair (h t d (omega arith) (omega (arith, length-zip a b)))

@@ -1,3 +1,4 @@
 pub mod Stages
+pub mod Floors
 pub mod Turns
 pub mod Nets

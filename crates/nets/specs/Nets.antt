@@ -1,8 +1,9 @@
 -- An event net as a plant, and its turns in the sheet.
-use Rattle.std.specs.Prelude.{◌≡◌, ℕ, ◌+◌, ◌*◌, ◌<◌, ◌≤◌, ◌↔◌, List, Ok, Err, Result}
+use Rattle.std.specs.Prelude.{◌≡◌, ℕ, ◌+◌, ◌*◌, ◌<◌, ◌≤◌, ◌↔◌, List, length, Ok, Err, Result}
 use Rattle.kinds.specs.Kind.{Ops}
 use Rattle.kinds.specs.declared.refusals.Refusal.{Refusal}
-use Rattle.plants.specs.Calls.{Outside}
+use Rattle.plants.specs.Calls.{Outside, Filled, Outcome}
+use Rattle.plants.specs.Fits.{Fits}
 use Rattle.plants.specs.Meaning.{Meaning, Counted, block, forward_cell, backward_cell}
 use Rattle.plants.specs.Theorems.{Below}
 use Rattle.plants.specs.declared.places.Places.{Places}
@@ -76,6 +77,11 @@ pub record Driven {T : Type 0} (o : Ops T) (s : Net T) (way : Way) (K : ℕ) (at
       ≡ answer o way s.transitions (reads_of way s) (writes_of way s) s.links.now (driven_by o way K at before) w j
   pub silent : (w j : ℕ) → w < writes_of way s → k ≤ j → j < K → cell o after (asked_of way at + (w * K + beat_of way K j)) ≡ none o way
   pub others : (a : ℕ) → Outside (asked_of way at) (writes_of way s * K) a → Outside at.working (net_need s K) a → cell o after a ≡ cell o before a
+
+-- a call is accepted exactly when its places suit the sheet, and then the block asked for holds the answer to the given block
+abbrev pub Answer : {T : Type 0} → Ops T → Net T → Way → ℕ → Places → List T → List T → Result (Unit {0}) Refusal → Type 0
+Answer o s way K at before after r = Outcome r (Fits s.inputs s.outputs K (net_need s K) at (length before))
+    (Filled o K (asked_of way at) (writes_of way s) at.working (net_need s K) (answer_cell o way s K (block o before (given_of way at) K)) before after) before after
 
 -- after an accepted call the output block holds what leaves by the least solution for the input block
 abbrev pub Solved : {T : Type 0} → Ops T → Net T → ℕ → Places → List T → List T → Result (Unit {0}) Refusal → Type 0

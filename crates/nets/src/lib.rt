@@ -1,5 +1,6 @@
 #![tactic(auto)]
 
+mod floor;
 mod moves;
 mod net;
 mod stage;

@@ -1,136 +1,131 @@
-ghost use Rattle.std.specs.Prelude.{◌≡◌, ℕ, ◌+◌, ◌-◌, ◌*◌, ◌<◌, ◌≤◌, true, ◌⊎◌, length, slice_set};
-ghost use Rattle.plants.specs.Calls.{Outside};
+ghost use Rattle.std.specs.Prelude.{◌≡◌, ℕ, ◌+◌, ◌-◌, ◌<◌, ◌≤◌, true, cond, Some, None, IfSome, length, slice_set};
 ghost use Rattle.routes.specs.Ways.{none, both, along};
-ghost use Rattle.nets.specs.Stages.{cell, row_cell, Laid, Swept};
+ghost use Rattle.nets.specs.Stages.{cell, takes_part, source, target, row_cell, Swept};
 ghost use Rattle.nets.specs.Turns.{Still, Relaxed, Settled, Played, Blank};
+ghost use Rattle.nets.specs.Floors.{SameFloor};
 
-use crate::stage::{Leg, Stage, source, takes, target};
+use crate::floor::Floor;
+use crate::stage::Leg;
 use kinds::Kind;
 use links::Link;
 use plants::fill;
-use routes::Way;
 
-// What a cell holds where nothing arrives.
-fn blank<T: Kind>(way: Way) -> T
-    ensures { result ≡ none T.Kind.ops way }
-{
-    match way {
-        Way::Forth => T::bottom(),
-        Way::Back => T::top(),
-    }
-}
-
-// Forth the join of a and the product of value and b, back the meet of a and their residual.
-fn gather<T: Kind>(way: Way, a: T, value: T, b: T) -> T
-    ensures { result ≡ both T.Kind.ops way a (along T.Kind.ops way value b) }
-{
-    match way {
-        Way::Forth => a.join(value.product(b)),
-        Way::Back => a.meet(value.residual(b)),
-    }
-}
-
-// Brings to one cell what comes of another over a link.
-fn carry<T: Kind>(way: Way, sheet: &mut [T], from: usize, to: usize, value: T)
-    requires { (from < length sheet.old) × (to < length sheet.old) }
-    ensures { sheet.new ≡ slice_set sheet.old to (both T.Kind.ops way (cell T.Kind.ops sheet.old to) (along T.Kind.ops way value (cell T.Kind.ops sheet.old from))) }
-{
-    sheet[to] = gather(way, sheet[to], value, sheet[from]);
-}
-
-// Brings to the cells of this leg what the links bring there.
-fn sweep<T: Kind>(links: &[Link<T>], leg: Leg, stage: &Stage, sheet: &mut [T])
-    requires { Laid stage.now (length sheet.old) }
-    ensures { Swept T.Kind.ops leg stage.now links.now sheet.old sheet.new }
-{
-    for link in links {
-        if takes(leg, stage, link) {
-            let from = source(leg, stage, link);
-            let to = target(leg, stage, link);
-            carry(stage.way, sheet, from, to, link.value);
+impl<T: Kind> Floor<'_, T> {
+    // The cells that a link reads and writes in a leg, if it takes part.
+    fn ends(&self, leg: Leg, link: &Link<T>) -> Option<(usize, usize)>
+        ensures ends { result ≡ cond (takes_part leg self.now.stage link.now) (Some (source leg self.now.stage link.now, target leg self.now.stage link.now)) None }
+        ensures within { IfSome result (λ p. (p.0 < length self.now.sheet.now) × (p.1 < length self.now.sheet.now)) }
+    {
+        let stage = &self.stage;
+        let tail = stage.tail(link);
+        let head = stage.head(link);
+        let tokens = usize::from(link.tokens);
+        let row = stage.working + stage.turn * stage.n;
+        match leg {
+            Leg::Into if stage.leads_in(link) => {
+                Some((stage.given + (tail * stage.beats + stage.beat), row + head))
+            }
+            Leg::Wait if link.is_delayed(stage.n) && tokens <= stage.turn => Some((
+                stage.working + ((stage.turn - tokens) * stage.n + tail),
+                row + head,
+            )),
+            Leg::Glide if link.is_tokenless(stage.n) => Some((
+                stage.working + (stage.beats * stage.n + tail),
+                row + head,
+            )),
+            Leg::Out if stage.leads_out(link) => Some((
+                row + tail,
+                stage.asked + (head * stage.beats + stage.beat),
+            )),
+            _ => None,
         }
     }
-}
 
-// Copies a row of n cells to another place of the sheet.
-fn copy_row<T: Kind>(sheet: &mut [T], n: usize, from: usize, to: usize)
-    requires from_within { from + n ≤ length sheet.old }
-    requires to_within { to + n ≤ length sheet.old }
-    requires apart { (from + n ≤ to) ⊎ (to + n ≤ from) }
-    ensures copied { (t : ℕ) → t < n → cell T.Kind.ops sheet.new (to + t) ≡ cell T.Kind.ops sheet.old (from + t) }
-    ensures kept { (a : ℕ) → Outside to n a → cell T.Kind.ops sheet.new a ≡ cell T.Kind.ops sheet.old a }
-{
-    for t in 0..n {
-        sheet[to + t] = sheet[from + t];
+    // Brings to one cell what comes of another over a link.
+    fn carry(&mut self, from: usize, to: usize, value: T)
+        requires { (from < length self.old.sheet.now) × (to < length self.old.sheet.now) }
+        ensures floor { SameFloor self.old self.new }
+        ensures carried { self.new.sheet.now ≡ slice_set self.old.sheet.now to (both T.Kind.ops self.old.stage.way (cell T.Kind.ops self.old.sheet.now to) (along T.Kind.ops self.old.stage.way value (cell T.Kind.ops self.old.sheet.now from))) }
+    {
+        let there = self.sheet[to];
+        let here = self.sheet[from];
+        self.sheet[to] = self.stage.gather(there, value, here);
     }
-}
 
-// Whether nothing new has arrived in a cell, as another held it before.
-fn is_still<T: Kind>(way: Way, sheet: &[T], at: usize, before: usize) -> bool
-    requires { (at < length sheet.now) × (before < length sheet.now) }
-    ensures { result ≡ true → Still T.Kind.ops way (cell T.Kind.ops sheet.now at) (cell T.Kind.ops sheet.now before) }
-{
-    match way {
-        Way::Forth => sheet[at].at_most(sheet[before]),
-        Way::Back => sheet[before].at_most(sheet[at]),
-    }
-}
-
-// Whether nothing new has arrived in a row, as the spare row holds it.
-fn is_stable<T: Kind>(way: Way, sheet: &[T], n: usize, row: usize, spare: usize) -> bool
-    requires { (row + n ≤ length sheet.now) × (spare + n ≤ length sheet.now) }
-    ensures { result ≡ true → (t : ℕ) → t < n → Still T.Kind.ops way (cell T.Kind.ops sheet.now (row + t)) (cell T.Kind.ops sheet.now (spare + t)) }
-{
-    for t in 0..n {
-        if !is_still(way, sheet, row + t, spare + t) {
-            return false;
+    // Brings to the cells of this leg what the links bring there.
+    fn sweep(&mut self, leg: Leg)
+        ensures floor { SameFloor self.old self.new }
+        ensures swept { Swept T.Kind.ops leg self.old.stage self.old.links.now self.old.sheet.now self.new.sheet.now }
+    {
+        for link in self.links {
+            if let Some((from, to)) = self.ends(leg, link) {
+                self.carry(from, to, link.value);
+            }
         }
     }
-    true
-}
 
-// One round: the row gets what the tokenless places bring; whether that was nothing new.
-fn relax<T: Kind>(links: &[Link<T>], stage: &Stage, sheet: &mut [T]) -> bool
-    requires { Laid stage.now (length sheet.old) }
-    ensures { Relaxed T.Kind.ops stage.now links.now sheet.old sheet.new result }
-{
-    let row = stage.working + stage.turn * stage.n;
-    let spare = stage.working + stage.beats * stage.n;
-    copy_row(sheet, stage.n, row, spare);
-    sweep(links, Leg::Glide, stage, sheet);
-    is_stable(stage.way, sheet, stage.n, row, spare)
-}
+    // Whether nothing new has arrived in a row, as the spare row holds it.
+    fn is_stable(&self, row: usize, spare: usize) -> bool
+        requires row_within { row + self.now.stage.n ≤ length self.now.sheet.now }
+        requires spare_within { spare + self.now.stage.n ≤ length self.now.sheet.now }
+        ensures { result ≡ true → (t : ℕ) → t < self.now.stage.n → Still T.Kind.ops self.now.stage.way (cell T.Kind.ops self.now.sheet.now (row + t)) (cell T.Kind.ops self.now.sheet.now (spare + t)) }
+    {
+        let n = self.stage.n;
+        let states = self.sheet[row..row + n].iter();
+        let mut pairs = states.zip(&self.sheet[spare..spare + n]);
+        pairs.all(|(now, before)| self.stage.is_still(*now, *before))
+    }
 
-// Relaxes the row of the turn n - 1 times, or until a round brings nothing new.
-fn settle<T: Kind>(links: &[Link<T>], stage: &Stage, sheet: &mut [T])
-    requires { Laid stage.now (length sheet.old) }
-    ensures { Settled T.Kind.ops stage.now links.now (stage.now.n - 1) sheet.old sheet.new }
-{
-    for _round in 1..stage.n {
-        if relax(links, stage, sheet) {
-            return;
+    // One round: the row gets what the tokenless places bring; whether that was nothing new.
+    fn relax(&mut self) -> bool
+        ensures floor { SameFloor self.old self.new }
+        ensures relaxed { Relaxed T.Kind.ops self.old.stage self.old.links.now self.old.sheet.now self.new.sheet.now result }
+    {
+        let n = self.stage.n;
+        let row = self.stage.working + self.stage.turn * n;
+        let spare = self.stage.working + self.stage.beats * n;
+        self.sheet.copy_within(row..row + n, spare);
+        self.sweep(Leg::Glide);
+        self.is_stable(row, spare)
+    }
+
+    // Relaxes the row of the turn n - 1 times, or until a round brings nothing new.
+    fn settle(&mut self)
+        ensures floor { SameFloor self.old self.new }
+        ensures settled { Settled T.Kind.ops self.old.stage self.old.links.now (self.old.stage.n - 1) self.old.sheet.now self.new.sheet.now }
+    {
+        for _round in 1..self.stage.n {
+            if self.relax() {
+                return;
+            }
         }
     }
-}
 
-// Makes the states of one turn and what goes out in it.
-pub(crate) fn play<T: Kind>(links: &[Link<T>], stage: &Stage, sheet: &mut [T])
-    requires laid { Laid stage.now (length sheet.old) }
-    requires clear { (t : ℕ) → t < stage.now.n → row_cell T.Kind.ops stage.now sheet.old t ≡ none T.Kind.ops stage.now.way }
-    ensures { Played T.Kind.ops stage.now links.now sheet.old sheet.new }
-{
-    sweep(links, Leg::Into, stage, sheet);
-    sweep(links, Leg::Wait, stage, sheet);
-    settle(links, stage, sheet);
-    sweep(links, Leg::Out, stage, sheet);
-}
+    // Makes the states of one turn and what goes out in it.
+    pub(crate) fn play(&mut self)
+        requires { (t : ℕ) → t < self.old.stage.n → row_cell T.Kind.ops self.old.stage self.old.sheet.now t ≡ none T.Kind.ops self.old.stage.way }
+        ensures floor { SameFloor self.old self.new }
+        ensures played { Played T.Kind.ops self.old.stage self.old.links.now self.old.sheet.now self.new.sheet.now }
+    {
+        self.sweep(Leg::Into);
+        self.sweep(Leg::Wait);
+        self.settle();
+        self.sweep(Leg::Out);
+    }
 
-// Makes the block asked for and the working cells blank.
-pub(crate) fn clear<T: Kind>(stage: &Stage, sheet: &mut [T])
-    requires { Laid stage.now (length sheet.old) }
-    ensures { Blank T.Kind.ops stage.now sheet.old sheet.new }
-{
-    let value = blank(stage.way);
-    fill(sheet, stage.asked, stage.writes * stage.beats, value);
-    fill(sheet, stage.working, (stage.beats + 1) * stage.n, value);
+    // Makes the block asked for and the working cells blank.
+    pub(crate) fn clear(&mut self)
+        ensures floor { SameFloor self.old self.new }
+        ensures blank { Blank T.Kind.ops self.old.stage self.old.sheet.now self.new.sheet.now }
+    {
+        let stage = &self.stage;
+        let value = stage.blank();
+        fill(self.sheet, stage.asked, stage.writes * stage.beats, value);
+        fill(
+            self.sheet,
+            stage.working,
+            (stage.beats + 1) * stage.n,
+            value,
+        );
+    }
 }

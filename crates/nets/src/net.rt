@@ -18,6 +18,7 @@ pub struct Net<'a, T> {
 
 impl<'a, T> Net<'a, T> {
     // A net of these links; a count out of its range is taken as the nearest end of it.
+    // Not `links::Counts`: its bytes would ask more of callers than any count.
     pub fn new(
         links: &'a [Link<T>],
         transitions: usize,

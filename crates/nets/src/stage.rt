@@ -1,12 +1,14 @@
-ghost use Rattle.std.specs.Prelude.{◌≡◌, ◌^◌, ◌<◌, true};
-ghost use Rattle.routes.specs.Ways.{head as head_of, tail as tail_of, into as is_into, out as is_out};
-ghost use Rattle.nets.specs.Stages.{takes_part, source as source_of, target as target_of};
+ghost use Rattle.std.specs.Prelude.{◌≡◌, true};
+ghost use Rattle.routes.specs.Ways.{none, both, along, head as head_of, tail as tail_of, into as is_into, out as is_out};
+ghost use Rattle.nets.specs.Turns.{Still};
 
+use kinds::Kind;
 use links::Link;
 use routes::Way;
 
 // The four legs of a turn: from the given block, from earlier turns, within the turn, to
 // the block asked for.
+// An enum: a closure for each leg would need a contract on what takes part, is read and written.
 #[derive(Clone, Copy)]
 pub(crate) enum Leg {
     Into,
@@ -32,81 +34,75 @@ pub(crate) struct Stage {
     pub(crate) working: usize,
 }
 
-// The end where a link starts.
-fn tail<T>(way: Way, link: &Link<T>) -> usize
-    ensures { result ≡ tail_of way link.now }
-{
-    match way {
-        Way::Forth => link.from as usize,
-        Way::Back => link.to as usize,
+// The way stays a value of an enum: the net's definitions and theorems take it as one.
+impl Stage {
+    // What a cell holds where nothing arrives.
+    pub(crate) fn blank<T: Kind>(&self) -> T
+        ensures { result ≡ none T.Kind.ops self.now.way }
+    {
+        match self.way {
+            Way::Forth => T::bottom(),
+            Way::Back => T::top(),
+        }
     }
-}
 
-// The end where it arrives.
-fn head<T>(way: Way, link: &Link<T>) -> usize
-    ensures { result ≡ head_of way link.now }
-{
-    match way {
-        Way::Forth => link.to as usize,
-        Way::Back => link.from as usize,
+    // Forth the join of a and the product of value and b, back the meet of a and their residual.
+    pub(crate) fn gather<T: Kind>(&self, a: T, value: T, b: T) -> T
+        ensures { result ≡ both T.Kind.ops self.now.way a (along T.Kind.ops self.now.way value b) }
+    {
+        match self.way {
+            Way::Forth => a.join(value.product(b)),
+            Way::Back => a.meet(value.residual(b)),
+        }
     }
-}
 
-// Whether a link leads from one of the given wires to one of n transitions.
-fn leads_in<T>(way: Way, n: usize, wires: usize, link: &Link<T>) -> bool
-    ensures { result ≡ is_into way n wires link.now }
-{
-    match way {
-        Way::Forth => link.is_entry(n, wires),
-        Way::Back => link.is_leaving(n, wires),
+    // Whether nothing new has arrived in a cell.
+    pub(crate) fn is_still<T: Kind>(&self, now: T, before: T) -> bool
+        ensures { result ≡ true → Still T.Kind.ops self.now.way now before }
+    {
+        match self.way {
+            Way::Forth => now.at_most(before),
+            Way::Back => before.at_most(now),
+        }
     }
-}
 
-// Whether a link leads from one of n transitions to one of the wires asked for.
-fn leads_out<T>(way: Way, n: usize, wires: usize, link: &Link<T>) -> bool
-    ensures { result ≡ is_out way n wires link.now }
-{
-    match way {
-        Way::Forth => link.is_leaving(n, wires),
-        Way::Back => link.is_entry(n, wires),
+    // The end where a link starts.
+    pub(crate) fn tail<T>(&self, link: &Link<T>) -> usize
+        ensures { result ≡ tail_of self.now.way link.now }
+    {
+        match self.way {
+            Way::Forth => usize::from(link.from),
+            Way::Back => usize::from(link.to),
+        }
     }
-}
 
-// Whether a link takes part in a leg.
-pub(crate) fn takes<T>(leg: Leg, stage: &Stage, link: &Link<T>) -> bool
-    ensures { result ≡ takes_part leg stage.now link.now }
-{
-    match leg {
-        Leg::Into => leads_in(stage.way, stage.n, stage.reads, link),
-        Leg::Wait => link.is_delayed(stage.n) && link.tokens as usize <= stage.turn,
-        Leg::Glide => link.is_tokenless(stage.n),
-        Leg::Out => leads_out(stage.way, stage.n, stage.writes, link),
+    // The end where it arrives.
+    pub(crate) fn head<T>(&self, link: &Link<T>) -> usize
+        ensures { result ≡ head_of self.now.way link.now }
+    {
+        match self.way {
+            Way::Forth => usize::from(link.to),
+            Way::Back => usize::from(link.from),
+        }
     }
-}
 
-// The cell that a link reads in a leg.
-pub(crate) fn source<T>(leg: Leg, stage: &Stage, link: &Link<T>) -> usize
-    requires part { takes_part leg stage.now link.now ≡ true }
-    requires short { source_of leg stage.now link.now < 2 ^ 64 }
-    ensures { result ≡ source_of leg stage.now link.now }
-{
-    let end = tail(stage.way, link);
-    match leg {
-        Leg::Into => stage.given + (end * stage.beats + stage.beat),
-        Leg::Wait => stage.working + ((stage.turn - link.tokens as usize) * stage.n + end),
-        Leg::Glide => stage.working + (stage.beats * stage.n + end),
-        Leg::Out => stage.working + (stage.turn * stage.n + end),
+    // Whether a link leads from one of the given wires to one of the transitions.
+    pub(crate) fn leads_in<T>(&self, link: &Link<T>) -> bool
+        ensures { result ≡ is_into self.now.way self.now.n self.now.reads link.now }
+    {
+        match self.way {
+            Way::Forth => link.is_entry(self.n, self.reads),
+            Way::Back => link.is_leaving(self.n, self.reads),
+        }
     }
-}
 
-// The cell that it writes.
-pub(crate) fn target<T>(leg: Leg, stage: &Stage, link: &Link<T>) -> usize
-    requires short { target_of leg stage.now link.now < 2 ^ 64 }
-    ensures { result ≡ target_of leg stage.now link.now }
-{
-    let end = head(stage.way, link);
-    match leg {
-        Leg::Out => stage.asked + (end * stage.beats + stage.beat),
-        _ => stage.working + (stage.turn * stage.n + end),
+    // Whether a link leads from one of the transitions to one of the wires asked for.
+    pub(crate) fn leads_out<T>(&self, link: &Link<T>) -> bool
+        ensures { result ≡ is_out self.now.way self.now.n self.now.writes link.now }
+    {
+        match self.way {
+            Way::Forth => link.is_leaving(self.n, self.writes),
+            Way::Back => link.is_entry(self.n, self.writes),
+        }
     }
 }

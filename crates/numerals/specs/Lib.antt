@@ -4,3 +4,4 @@ pub mod Texts
 pub mod Backs
 pub mod Numerals
 pub mod Nibbles
+pub mod Shown

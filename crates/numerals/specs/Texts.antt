@@ -4,6 +4,8 @@ use Rattle.kinds.specs.declared.dates.Date.{Date}
 use Rattle.kinds.specs.declared.dates.Date.TheVariants.{Never, At, Open}
 use Rattle.kinds.specs.declared.levels.Level.{Level}
 use Rattle.kinds.specs.declared.channels.Channels.{Channels}
+use Rattle.kinds.specs.declared.refusals.Refusal.{Refusal}
+use Rattle.kinds.specs.declared.refusals.Refusal.TheVariants.{Spelling as WrongSpelling, Range as WrongRange}
 use Rattle.kinds.specs.Dates.{new_tick}
 use Rattle.kinds.specs.Levels.{new_level}
 use Rattle.kinds.specs.Sets.{of_bits}
@@ -15,6 +17,24 @@ use Rattle.numerals.specs.Hexes.{bits_of, bits_text}
 -- reading a written value returns it
 abbrev pub ReadsBack : {T : Type 0} → (T → List ℕ) → (List ℕ → Result T Misread) → Type 0
 ReadsBack {T} text reading = (x : T) → reading (text x) ≡ Ok x
+
+-- what is printed of a value is its text
+abbrev pub Shows : {T : Type 0} → (T → Option (List ℕ)) → (T → List ℕ) → Type 0
+Shows {T} output text = (x : T) → output x ≡ Some (text x)
+
+-- a field that gives no value, as a refusal of the whole
+abbrev pub refused : Misread → Refusal
+refused Spelling = WrongSpelling
+refused Range = WrongRange
+
+-- what the conversion of a number in a field gives, where `gives` says what that of a number does
+abbrev pub misread : {T : Type 0} → Result T Refusal → Result T Misread
+misread (Ok x) = Ok x
+misread (Err e) = Err Range
+
+abbrev pub Ranged : {T : Type 0} → (ℕ → Result T Refusal → Type 0) → Option ℕ → Result T Misread → Type 0
+Ranged gives None r = r ≡ Err Spelling
+Ranged {T} gives (Some n) r = (made : Result T Refusal) × gives n made × (r ≡ misread made)
 
 -- the value made of a number, if that is in range
 abbrev pub ranged : {A T : Type 0} → (A → T) → Option A → Result T Misread

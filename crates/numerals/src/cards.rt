@@ -1,12 +1,14 @@
-ghost use Rattle.std.specs.Prelude.{◌≡◌, ℕ, List, ◌++◌, Ok, Result, OnOk};
+ghost use Rattle.std.specs.Prelude.{◌≡◌, ℕ, List, Result};
 ghost use Rattle.numerals.specs.declared.cards.Misread.{Misread};
-ghost use Rattle.numerals.specs.Texts.{ReadsBack, date_of, date_text, level_of, level_text, channels_of, channels_text};
+ghost use Rattle.numerals.specs.Decimals.{number_of};
+ghost use Rattle.numerals.specs.Texts.{ReadsBack, Shows, Ranged, refused, date_of, date_text, level_of, level_text, channels_of, channels_text};
 ghost use Rattle.numerals.specs.Backs.{date_back, level_back, channels_back};
+ghost use Rattle.numerals.specs.Shown.{NumbersShown, BitsShown, numbers_shown, bits_shown, date_shows, level_shows, channels_shows};
 
-use crate::decimal::{read_number, write_number};
-use crate::hexadecimal::{read_bits, write_bits};
-use kinds::{Channels, Date, Kind, Level, Tick};
-use std::alloc::AllocError;
+use crate::decimal::read_number;
+use crate::hexadecimal::read_bits;
+use kinds::{Channels, Date, Kind, Level, Refusal};
+use std::fmt::Display;
 
 // Why a field gives no value: it spells none, or one out of range.
 #[derive(Clone, Copy, PartialEq, Eq, Debug)]
@@ -15,8 +17,19 @@ pub enum Misread {
     Range,
 }
 
+impl From<Misread> for Refusal {
+    ghost from_gives = { λ m r. r ≡ refused m };
+
+    fn from(misread: Misread) -> Refusal {
+        match misread {
+            Misread::Spelling => Refusal::Spelling,
+            Misread::Range => Refusal::Range,
+        }
+    }
+}
+
 // A value kind with its text.
-pub trait CardKind: Kind {
+pub trait CardKind: Kind + Display {
     // the bytes of a value
     ghost text: { Self → List ℕ };
 
@@ -26,9 +39,8 @@ pub trait CardKind: Kind {
     fn read(field: &[u8]) -> Result<Self, Misread>
         ensures { result ≡ reading field.now };
 
-    // Appends the text. Want of memory may leave a part of it appended.
-    fn write(self, out: &mut Vec<u8>) -> Result<(), AllocError>
-        ensures { OnOk result (out.new.items ≡ out.old.items ++ text self) };
+    // `{}` writes the text
+    ghost shown: { Shows Self.output text };
 
     // reading a written value returns it
     ghost back: { ReadsBack text reading };
@@ -39,35 +51,37 @@ pub fn reads_back<T: CardKind>()
     ensures { ReadsBack T.CardKind.text T.CardKind.reading }
 {}
 
+// What `{}` writes, for every kind with a text, for numbers and for sixteen bits.
+#[tactic(auto, using(crate::specs::Shown::numbers_shown))]
+pub fn shows_text<T: CardKind>()
+    ensures value { Shows T.Display.output T.CardKind.text }
+    ensures number { NumbersShown }
+    ensures bits { BitsShown }
+{}
+
+// The value of the number in a field, where it is in range.
+fn read_ranged<T: TryFrom<u32, Error = Refusal>>(field: &[u8]) -> Result<T, Misread>
+    ensures { Ranged T.try_from_gives (number_of field.now) result }
+{
+    let n = read_number(field).ok_or(Misread::Spelling)?;
+    T::try_from(n).map_err(|_| Misread::Range)
+}
+
 impl CardKind for Date {
     ghost text = { date_text };
 
     ghost reading = { date_of };
 
+    ghost shown = { date_shows };
+
     ghost back = { date_back };
 
     fn read(field: &[u8]) -> Result<Date, Misread> {
         match field {
-            [b'-'] => return Ok(Date::Never),
-            [b'*'] => return Ok(Date::Open),
-            _ => {}
+            [b'-'] => Ok(Date::Never),
+            [b'*'] => Ok(Date::Open),
+            _ => Ok(Date::At(read_ranged(field)?)),
         }
-        let Some(n) = read_number(field) else {
-            return Err(Misread::Spelling);
-        };
-        match Tick::new(n) {
-            Some(t) => Ok(Date::At(t)),
-            None => Err(Misread::Range),
-        }
-    }
-
-    fn write(self, out: &mut Vec<u8>) -> Result<(), AllocError> {
-        match self {
-            Date::Never => out.push(b'-')?,
-            Date::At(t) => write_number(u64::from(t.value()), out)?,
-            Date::Open => out.push(b'*')?,
-        }
-        Ok(())
     }
 }
 
@@ -76,21 +90,12 @@ impl CardKind for Level {
 
     ghost reading = { level_of };
 
+    ghost shown = { level_shows };
+
     ghost back = { level_back };
 
     fn read(field: &[u8]) -> Result<Level, Misread> {
-        let Some(n) = read_number(field) else {
-            return Err(Misread::Spelling);
-        };
-        match Level::new(n) {
-            Some(level) => Ok(level),
-            None => Err(Misread::Range),
-        }
-    }
-
-    fn write(self, out: &mut Vec<u8>) -> Result<(), AllocError> {
-        write_number(u64::from(self.value()), out)?;
-        Ok(())
+        read_ranged(field)
     }
 }
 
@@ -99,17 +104,12 @@ impl CardKind for Channels {
 
     ghost reading = { channels_of };
 
+    ghost shown = { channels_shows };
+
     ghost back = { channels_back };
 
     fn read(field: &[u8]) -> Result<Channels, Misread> {
-        match read_bits(field) {
-            Some(bits) => Ok(Channels::new(bits)),
-            None => Err(Misread::Spelling),
-        }
-    }
-
-    fn write(self, out: &mut Vec<u8>) -> Result<(), AllocError> {
-        write_bits(self.bits(), out)?;
-        Ok(())
+        let bits = read_bits(field).ok_or(Misread::Spelling)?;
+        Ok(Channels::from(bits))
     }
 }

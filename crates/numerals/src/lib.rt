@@ -3,7 +3,9 @@
 mod cards;
 mod decimal;
 mod hexadecimal;
+mod numbers;
 
-pub use cards::{CardKind, Misread, reads_back};
-pub use decimal::{read_number, write_number};
-pub use hexadecimal::{read_bits, write_bits};
+pub use cards::{CardKind, Misread, reads_back, shows_text};
+pub use decimal::read_number;
+pub use hexadecimal::read_bits;
+pub use numbers::Number;

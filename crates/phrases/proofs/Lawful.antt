@@ -8,12 +8,12 @@ use Rattle.runs.specs.Plans.{Block, Same, put}
 use Rattle.runs.proofs.Whys.{why, never}
 use Rattle.phrases.specs.Orders.{lane_at, is_out, back, ordered, order_answer}
 use Rattle.runs.specs.History.{Run, Stage, takes, stage_of, nothing, given, deed, Laid, Ours, held_of, Fair, Sound}
-use Rattle.phrases.specs.Cells.{total, plan_from, score, plan, cell_of, RefusedShort, LaidOut, Struck, Taken, Turned, Fired, Unfired, Missed, Unmissed}
-use Rattle.phrases.specs.Steps.{room, Left, lay_act, due_act, strikes_act, fire_act, miss_act, order_act}
+use Rattle.phrases.specs.Cells.{total, plan_from, score, plan, cell_of, RefusedShort, Struck, Taken, Turned, Fired, Unfired, Missed, Unmissed}
+use Rattle.phrases.specs.Steps.{room, Left, due_act, strikes_act, fire_act, miss_act, order_act}
 use Rattle.runs.specs.declared.acts.Answer.{Answer}
 use Rattle.runs.specs.declared.acts.Answer.TheVariants.{Done, Refused}
 use Rattle.runs.specs.declared.acts.Call.{Call}
-use Rattle.runs.specs.declared.acts.Call.TheVariants.{Lay, Due, Order, Fire, Miss, Strikes}
+use Rattle.runs.specs.declared.acts.Call.TheVariants.{Due, Order, Fire, Miss, Strikes}
 use Rattle.phrases.specs.declared.lanes.Lane.{Lane}
 use Rattle.phrases.specs.declared.lanes.Order.{Order as Token}
 use Rattle.kinds.specs.declared.refusals.Refusal.{Refusal}
@@ -21,7 +21,7 @@ use Rattle.kinds.specs.declared.refusals.Refusal.TheVariants.{Missing, Short, Or
 use Rattle.phrases.specs.declared.lanes.Returned.{Returned}
 use Rattle.phrases.proofs.Places.{cell_in, spread, place_inj, plan_cell_in, out_parts, same_fixed}
 use Rattle.runs.proofs.Puts.{put_cases}
-use Rattle.runs.proofs.Runs.{act, taken_now, agrees, ours, nothing_step, due_step, barred_step, order_step, given_step, lay_step}
+use Rattle.runs.proofs.Runs.{act, taken_now, agrees, ours, nothing_step, due_step, barred_step, order_step, given_step}
 
 -- a lane that is changed, and the others
 pub set_lane : (table : List Lane) (i j : ℕ) (x : Lane) → i < length table → lane_at (set table i x) j ≡ cond (eqb j i) x (lane_at table j)
@@ -67,11 +67,6 @@ module _ {V : Type 0} {o : Ops V} (L : Laws o) (M : Meaning V) (K need : ℕ) (g
 
   now_taken : (c : Call V) → takes c g ≡ true → takes c (stage_of o h) ≡ true
   now_taken c tk = taken_now L M K (room M K need s) g h _ _ _ _ few old c true tk
-
-  pub lay_law : {X : Type 0} (s' : List V) → length s' ≡ length s → takes {V = V} Lay g ≡ true → ((i : ℕ) → i < M.inputs → (lane_at table i).fixed ≡ 0) → ((i : ℕ) → i < M.inputs → (lane_at table i).out ≡ false) → (r : Result X Refusal) →
-      MatchResult r (λ _. LaidOut o M K need s s') (λ e. RefusedShort o M K need s s' e) → Left o M K need g (lay_act r ∷ h) table s'
-  lay_law s' len tk ef et (Ok x) t = at_sheet g _ table s' len (lay_step L M K (room M K need s) g h _ _ _ _ few old tk (le-leb _ _ t.fits) _ _ t.scored t.planned ef et)
-  lay_law s' len tk ef et (Err e) t = why (λ w. Left o M K need g (act Lay (Refused w) ∷ h) table s') e t never (λ p. quiet Lay (Refused Short) table s' refl (now_taken Lay tk, lt-leb _ _ p.0) refl p.1) never never never never never
 
   pub strikes_law : {X : Type 0} (s' : List V) → length s' ≡ length s → takes {V = V} Strikes g ≡ true → (r : Result X Refusal) →
       MatchResult r (λ _. Struck o M K need s s') (λ e. RefusedShort o M K need s s' e) → Left o M K need g (strikes_act r ∷ h) table s'

@@ -1,7 +1,7 @@
 pub mod Places
-pub mod Parts
 pub mod Duly
 pub mod Lawful
-pub mod Misses
 pub mod Played
 pub mod Following
+pub mod Kept
+pub mod Made

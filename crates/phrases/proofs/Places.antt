@@ -1,8 +1,11 @@
 -- Where the cells of a sheet lie.
-use Rattle.std.proofs.Common.{◌≡◌, ℕ, zero, suc, ◌+◌, ◌*◌, ◌/◌, ◌%◌, ◌<◌, ◌≤◌, true, false, ◌&&◌, eqb, ltb, List, [], ◌∷◌, set, sym, refl, ap, ◌∙◌, subst, inl, inr, mul_comm, add-mul, arith}
+use Rattle.std.proofs.Common.{◌≡◌, ℕ, zero, suc, ◌+◌, ◌*◌, ◌/◌, ◌%◌, ◌<◌, ◌≤◌, true, false, ◌&&◌, eqb, ltb, List, [], ◌∷◌, set, sym, refl, ap, ◌∙◌, inr, mul_comm, add-mul, arith}
 use Rattle.std.proofs.lemmas.Bool.{and_parts, ltb-true, eqb-true}
 use Rattle.plants.specs.Fits.{Fits}
-use Rattle.phrases.specs.Orders.{lane_at, is_out, back}
+use Rattle.plants.specs.Meaning.{Meaning, Counted}
+use Rattle.phrases.specs.Promises.{fixed_in}
+use Rattle.phrases.specs.declared.states.Phrase.{Phrase}
+use Rattle.phrases.specs.Orders.{lane_at, is_out}
 use Rattle.phrases.specs.declared.lanes.Lane.{Lane}
 use Rattle.phrases.specs.declared.lanes.Order.{Order}
 use Rattle.std.proofs.lemmas.Nat.{mul-add-lt, div-mul-add, mod-mul-add}
@@ -34,27 +37,13 @@ spread p m K need = record {
 pub plan_cell_in : (p m K need n i b : ℕ) → whole p m K need ≤ n → i < m → b < K → plan_at p m K + (i * K + b) < n
 plan_cell_in p m K need n i b h hi hb = let s = spread p m K need in omega (arith, cell_in m K i b hi hb, s.in_all)
 
-pub spare_cell_in : (p m K need n i b : ℕ) → whole p m K need ≤ n → i < m → b < K → spare_at p m K + (i * K + b) < n
-spare_cell_in p m K need n i b h hi hb = let s = spread p m K need in omega (arith, cell_in m K i b hi hb, s.in_all, s.at_spare)
-
-pub score_cell_in : (p m K need n y b : ℕ) → whole p m K need ≤ n → y < p → b < K → y * K + b < n
-score_cell_in p m K need n y b h hy hb = let s = spread p m K need in omega (arith, cell_in p K y b hy hb, s.in_all)
-
--- the places of the two calls of the plant
+-- the places of the call that writes the ceiling
 pub climb_fits : (p m K need len : ℕ) → whole p m K need ≤ len → Fits m p K need (record { input = spare_at p m K; output = 0; working = working_at p m K }) len
 climb_fits p m K need len h = let s = spread p m K need in record {
   apart = inr (omega (arith, s.at_spare));
   input_before = omega (arith, s.at_spare, s.at_working);
   output_before = omega (arith, s.at_working);
   covered = h;
-}
-
-pub strike_fits : (p m K need len : ℕ) → whole p m K need ≤ len → Fits m p K need (record { input = plan_at p m K; output = strikes_at p m K; working = spare_at p m K }) len
-strike_fits p m K need len h = let s = spread p m K need in record {
-  apart = inl (omega (arith, s.at_strikes));
-  input_before = omega (arith, s.at_spare);
-  output_before = omega (arith, s.at_strikes, s.at_spare);
-  covered = omega (arith, s.in_all, s.at_spare);
 }
 
 -- an order that is out here, and its cell
@@ -78,6 +67,6 @@ same_fixed (l ∷ ls) zero (suc i) = refl
 same_fixed (l ∷ ls) (suc n) zero = refl
 same_fixed (l ∷ ls) (suc n) (suc i) = same_fixed ls n i
 
--- a lane that keeps its count
-pub back_within : (k : ℕ) (table : List Lane) (o : Order) → ((i : ℕ) → i < 16 → (lane_at table i).fixed ≤ k) → (i : ℕ) → i < 16 → (lane_at (back table o) i).fixed ≤ k
-back_within k table o within i hi = subst (λ n. n ≤ k) (sym (same_fixed table o.input i)) (within i hi)
+-- the fixed beats of an input of the phrase
+pub few_fixed : {P V : Type 0} (M : Meaning V) (ph : Phrase P) → Counted M → (i : ℕ) → i < M.inputs → fixed_in ph i ≤ ph.horizon.beats
+few_fixed M ph counted i hi = let many = counted.few_inputs in ph.within i (omega arith)

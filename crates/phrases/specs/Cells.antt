@@ -3,11 +3,12 @@ use Rattle.std.specs.Prelude.{◌≡◌, ℕ, ◌+◌, ◌*◌, ◌<◌, ◌≤�
 use Rattle.kinds.specs.Kind.{Ops, AtMost}
 use Rattle.plants.specs.Meaning.{Meaning, block, forward_cell, backward_cell}
 use Rattle.runs.specs.Plans.{Block, put}
-use Rattle.phrases.specs.Sheets.{plan_at, strikes_at, spare_at, whole}
+use Rattle.phrases.specs.Sheets.{plan_at, strikes_at, spare_at, working_at, whole}
 use Rattle.runs.specs.Refusals.{by_refusal}
 use Rattle.phrases.specs.Orders.{is_out, back}
 use Rattle.phrases.specs.declared.lanes.Lane.{Lane}
 use Rattle.phrases.specs.declared.lanes.Order.{Order}
+use Rattle.phrases.specs.declared.states.blocks.Blocks.{Blocks}
 use Rattle.kinds.specs.declared.refusals.Refusal.{Refusal}
 
 -- where the blocks begin
@@ -54,13 +55,15 @@ module _ {V : Type 0} (o : Ops V) (M : Meaning V) (K : ℕ) where
   abbrev pub spare : List V → Block V
   spare s = block o s (spare_from M K) K
 
-module _ {V : Type 0} (o : Ops V) (M : Meaning V) (K need : ℕ) where
-  -- the ceiling of the score stands in the spare block
-  pub record Climbed (s s' : List V) : Type 0 where
-    pub ceiled : (i b : ℕ) → i < M.inputs → b < K → spare o M K s' i b ≡ backward_cell o M K (score o K s) i b
-    pub kept : Kept o (λ n. n < spare_from M K) s s'
-    pub beyond : Kept o (λ n. total M K need ≤ n) s s'
+-- a sheet that has all the cells, and where its blocks begin
+pub record Placed {V : Type 0} (M : Meaning V) (K need : ℕ) (at : Blocks) (s : List V) : Type 0 where
+  pub fits : total M K need ≤ length s
+  pub plan : at.plan ≡ plan_from M K
+  pub strikes : at.strikes ≡ strikes_from M K
+  pub spare : at.spare ≡ spare_from M K
+  pub working : at.working ≡ working_at M.outputs M.inputs K
 
+module _ {V : Type 0} (o : Ops V) (M : Meaning V) (K need : ℕ) where
   -- the fixed plan cells stay and the open ones become c
   pub record Adopted (f : ℕ → ℕ) (c : Block V) (s s' : List V) : Type 0 where
     pub planned : (i b : ℕ) → i < M.inputs → b < K → plan o M K s' i b ≡ mixed f (plan o M K s) c i b
@@ -103,6 +106,14 @@ module _ {V : Type 0} (o : Ops V) (M : Meaning V) (K need : ℕ) where
       ((length s < total M K need) × (s' ≡ s))
       ((total M K need ≤ length s) × (y < M.outputs) × (k < K) × (Holds o M f (plan o M K s) (backward_cell o M K (put y k v (score o K s))) → ⊥) × Kept o (λ n. n < spare_from M K) s s' × Kept o (λ n. total M K need ≤ n) s s')
       ⊥ ⊥ ⊥ ⊥
+
+  -- a firing of v that is taken writes this cell
+  pub record Aimed (order : Order) (v : V) (table : List Lane) (s : List V) (at : ℕ) : Type 0 where
+    pub fits : total M K need ≤ length s
+    pub ours : is_out M.inputs table order ≡ true
+    pub low : AtMost o v (plan o M K s order.input order.beat)
+    pub place : at ≡ cell_of M K order
+    pub inside : at < length s
 
   -- an accepted firing of v
   pub record Fired (order : Order) (v : V) (table table' : List Lane) (s s' : List V) : Type 0 where

@@ -3,6 +3,7 @@ use Rattle.std.specs.Prelude.{ℕ, Bool, List, ◌∷◌, length, Ok, Err, Resul
 use Rattle.kinds.specs.Kind.{Ops}
 use Rattle.plants.specs.Meaning.{Meaning}
 use Rattle.runs.specs.History.{Run, Stage, Sound}
+use Rattle.runs.specs.Told.{told}
 use Rattle.phrases.specs.Cells.{score, plan, total}
 use Rattle.phrases.specs.Orders.{lane_at}
 use Rattle.runs.specs.declared.acts.Act.{Act}
@@ -35,11 +36,6 @@ module _ {V : Type 0} (o : Ops V) (M : Meaning V) (K : ℕ) where
 
   abbrev pub order_act : List V → ℕ → Result Token Refusal → Act V
   order_act s i r = record { call = Order i; answer = ordered_as s r }
-
--- the answer to a call that hands nothing out
-abbrev pub told : {V X : Type 0} → Result X Refusal → Answer V
-told (Ok x) = Done
-told (Err e) = Refused e
 
 abbrev pub told_back : {V X : Type 0} → Result X Returned → Answer V
 told_back (Ok x) = Done

@@ -1,22 +1,25 @@
-ghost use Rattle.std.specs.Prelude.{◌≡◌, ◌+◌, ◌<◌, true, false, set};
-ghost use Rattle.phrases.specs.Orders.{lane_at};
+ghost use Rattle.std.specs.Prelude.{◌≡◌, ◌+◌, ◌<◌, true, set};
+ghost use Rattle.phrases.specs.Orders.{lane_at, back};
 
 use kinds::Refusal;
 
 // What an input's lane keeps: how many of its beats are fixed, and whether an order is out.
-#[derive(Clone, Copy)]
+// A flag beside a count and no Option: beats are fixed with no order out too.
+#[derive(Clone, Copy, PartialEq, Eq, Debug)]
 pub struct Lane {
     pub(crate) fixed: usize,
     pub(crate) out: bool,
 }
 
 // An order for one beat of an input. It can't be let go: it is given back as a firing or a miss.
+#[derive(PartialEq, Eq, Debug)]
 pub struct Order {
     pub(crate) input: usize,
     pub(crate) beat: usize,
 }
 
 // An order that was not taken, and why.
+#[derive(PartialEq, Eq, Debug)]
 pub struct Returned {
     pub order: Order,
     pub refusal: Refusal,
@@ -40,6 +43,21 @@ impl Order {
     {
         self.beat
     }
+
+    pub(crate) fn spend(self) {
+        let Order { input: _, beat: _ } = self;
+    }
+}
+
+impl Returned {
+    // Why the order was not taken. The order is spent.
+    pub(crate) fn why(self) -> Refusal
+        ensures { result ≡ self.refusal }
+    {
+        let Returned { order, refusal } = self;
+        order.spend();
+        refusal
+    }
 }
 
 impl Lanes {
@@ -57,7 +75,7 @@ impl Lanes {
 
     pub(crate) fn take_back(&mut self, order: Order)
         requires { order.input < 16 }
-        ensures { self.new.table ≡ set self.old.table order.input (record { fixed = (lane_at self.old.table order.input).fixed; out = false }) }
+        ensures { self.new.table ≡ back self.old.table order }
     {
         let Order { input, beat: _ } = order;
         self.table[input].out = false;

@@ -4,7 +4,7 @@ ghost use Rattle.phrases.specs.Orders.{lane_at};
 use crate::lanes::Lanes;
 use plants::Horizon;
 
-mod blocks;
+pub(crate) mod blocks;
 pub mod calls;
 pub mod events;
 pub mod phase;
@@ -20,6 +20,9 @@ pub struct Phrase<P> {
     ghost within: { (i : ℕ) → i < 16 → (lane_at lanes.table i).fixed ≤ horizon.beats },
     ghost sixteen: { length lanes.table ≡ 16 },
 }
+
+// Three types, with a line for each call: one type by stage would need a marker for each stage
+// and a trait for each call that two stages take.
 
 // A phrase that is not yet started: no beat is fixed and no order is out.
 #[derive(Drop)]

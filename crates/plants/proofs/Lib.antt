@@ -2,3 +2,4 @@ pub mod Order
 pub mod Joins
 pub mod Blocks
 pub mod Galois
+pub mod Pairs

@@ -21,6 +21,11 @@ pub record Flooded {T : Type 0} (o : Ops T) (start n : ℕ) (v : T) (before afte
   pub inside : (a : ℕ) → start ≤ a → a < start + n → a < length before → slice_index_or after a o.bottom ≡ v
   pub outside : (a : ℕ) → Outside start n a → slice_index_or after a o.bottom ≡ slice_index_or before a o.bottom
 
+-- accepted exactly when `fits`; a refusal is 8
+abbrev pub Checked : Type 0 → Result (Unit {0}) Refusal → Type 0
+Checked fits (Ok _) = fits
+Checked fits (Err e) = (e ≡ Short) × (fits → ⊥)
+
 -- accepted exactly when `fits`, and then `done`; a refusal is 8, and changes nothing
 abbrev pub Outcome : {T : Type 0} → Result (Unit {0}) Refusal → Type 0 → Type 0 → List T → List T → Type 0
 Outcome (Ok _) fits done before after = fits × done

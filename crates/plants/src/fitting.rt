@@ -4,11 +4,11 @@ ghost use Rattle.plants.specs.Fits.{Fits};
 use crate::horizon::Horizon;
 use crate::places::Places;
 
-// Whether `cells` cells from `start` end at `limit` or before it. No sum is made that could wrap.
+// Whether `cells` cells from `start` end at `limit` or before it.
 fn ends_by(start: usize, cells: usize, limit: usize) -> bool
     ensures { MatchBool result (start + cells ≤ limit) (limit < start + cells) }
 {
-    cells <= limit && start <= limit - cells
+    start.checked_add(cells).is_some_and(|end| end <= limit)
 }
 
 impl Places {

@@ -1,6 +1,7 @@
 ghost use Rattle.std.specs.Prelude.{◌≡◌, ℕ};
 ghost use Rattle.plants.specs.Meaning.{Meaning, Counted};
-ghost use Rattle.plants.specs.Calls.{Forward, Backward};
+ghost use Rattle.plants.specs.Calls.{Checked, Forward, Backward};
+ghost use Rattle.plants.specs.Fits.{Fits};
 
 use crate::horizon::Horizon;
 use crate::places::Places;
@@ -26,6 +27,20 @@ pub trait Plant {
 
     fn need(&self, k: Horizon) -> usize
         ensures { result ≡ need self.now k.beats };
+
+    // Refuses places that do not suit a sheet of `len` cells.
+    fn check_places(&self, k: Horizon, len: usize, at: Places) -> Result<(), Refusal>
+        ensures { Checked (Fits (meaning self.now).inputs (meaning self.now).outputs k.beats (need self.now k.beats) at len) result }
+    {
+        if at.fit(self.inputs(), self.outputs(), k, self.need(k), len) {
+            Ok(())
+        } else {
+            Err(Refusal::Short)
+        }
+    }
+
+    // Horizon, sheet and places stay apart here and below: a caller keeps one horizon, lends
+    // the sheet anew and picks the places for each call.
 
     // Writes the output block that the input block drives.
     fn forward(&self, k: Horizon, sheet: &mut [Self::Value], at: Places) -> Result<(), Refusal>

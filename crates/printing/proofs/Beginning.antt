@@ -12,7 +12,8 @@ use Rattle.runs.proofs.Whys.{why, never}
 use Rattle.phrases.proofs.Played.{move}
 use Rattle.phrases.specs.Cells.{total}
 use Rattle.phrases.specs.Promises.{LayCells, Law}
-use Rattle.phrases.specs.Steps.{Left, told, lay_act, start_act}
+use Rattle.phrases.specs.Steps.{Left, lay_act, start_act}
+use Rattle.runs.specs.Told.{told}
 use Rattle.phrases.specs.declared.states.Phrase.{Phrase}
 use Rattle.printing.specs.Plays.{begun}
 

@@ -15,11 +15,11 @@ use Rattle.texts.specs.declared.positions.Position.{Position}
 use Rattle.texts.specs.declared.scores.ScoreLine.{ScoreLine}
 use Rattle.texts.specs.Lines.{past}
 use Rattle.texts.specs.Scores.{beats_from}
-use Rattle.loading.specs.declared.nets.AnyNet.{AnyNet}
-use Rattle.loading.specs.declared.nets.AnyNet.TheVariants.{Dates, Levels, Sets}
+use Rattle.loading.specs.declared.checked_nets.AnyNet.{AnyNet}
+use Rattle.loading.specs.declared.checked_nets.AnyNet.TheVariants.{Dates, Levels, Sets}
 use Rattle.loading.specs.Loads.{Loaded}
 use Rattle.printing.specs.Reads.{Reads}
-use Rattle.printing.specs.Rows.{fault_row}
+use Rattle.listing.specs.FaultRows.{fault_row}
 use Rattle.printing.specs.Performs.{Performed}
 
 -- a net of these counts and links

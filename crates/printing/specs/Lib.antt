@@ -4,3 +4,4 @@ pub mod Plays
 pub mod Rows
 pub mod Performs
 pub mod Cards
+pub mod Sides

@@ -10,7 +10,8 @@ use Rattle.texts.specs.declared.faults.Fault.{Fault}
 use Rattle.texts.specs.declared.scores.ScoreLine.{ScoreLine}
 use Rattle.listing.specs.declared.lines.Block.TheVariants.{Plan, Strikes}
 use Rattle.printing.specs.Plays.{Plays, begun}
-use Rattle.printing.specs.Rows.{fault_row, act_rows, cell_rows}
+use Rattle.listing.specs.FaultRows.{fault_row}
+use Rattle.printing.specs.Rows.{act_rows, cell_rows}
 
 module _ {T : Type 0} (o : Ops T) (text : T → List ℕ) (M : Meaning T) (K : ℕ) where
   -- a plan, and the strikes that it drives

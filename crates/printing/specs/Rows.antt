@@ -1,18 +1,13 @@
 -- The rows of a card: its lines, each with the byte that ends it.
 use Rattle.std.specs.Prelude.{ℕ, zero, suc, ◌/◌, ◌%◌, List, [], ◌∷◌, ◌++◌, Some, None, Option}
 use Rattle.runs.specs.declared.acts.Act.{Act}
-use Rattle.texts.specs.declared.faults.Fault.{Fault}
 use Rattle.listing.specs.declared.lines.Block.{Block}
 use Rattle.listing.specs.declared.lines.CardLine.{CardLine}
 use Rattle.listing.specs.CardLines.{card_line, cell_line}
 use Rattle.printing.specs.ActLines.{act_line}
-use Rattle.listing.specs.FaultLines.{fault_text}
 
 abbrev pub row : List ℕ → List ℕ
 row line = line ++ (10 ∷ [])
-
-abbrev pub fault_row : Fault → List ℕ
-fault_row f = row (fault_text f)
 
 abbrev pub row_if : {T : Type 0} → (T → List ℕ) → Option (CardLine T) → List ℕ
 row_if text None = []

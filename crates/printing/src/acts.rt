@@ -11,7 +11,7 @@ fn spot_of<T: Kind>(beat: usize, value: T) -> Option<Spot<T>>
     Some(Spot { beat, value })
 }
 
-// The line of a call that was done or refused.
+// The line of a call that was done or refused. A match: each call has parts of its own.
 fn call_line<T: Kind>(call: Call<T>, answer: Result<(), Refusal>) -> Option<CardLine<T>>
     ensures { result ≡ call_line T.Kind.ops.bottom call answer }
 {

@@ -8,4 +8,4 @@ mod rows;
 mod scores;
 
 pub use acts::act_line;
-pub use cards::{card, print, refused};
+pub use cards::{card, print};

@@ -1,6 +1,6 @@
 ghost use Rattle.std.specs.Prelude.{◌≡◌, ◌++◌, IfOk, OnOk};
 ghost use Rattle.phrases.specs.Events.{acts, Follows};
-ghost use Rattle.phrases.specs.Promises.{Law};
+ghost use Rattle.phrases.specs.Promises.{Law, Stays};
 ghost use Rattle.runs.specs.History.{playing};
 ghost use Rattle.runs.specs.declared.acts.Call.TheVariants.{Due as due};
 ghost use Rattle.printing.specs.Plays.{ComesTo, Plays};
@@ -8,7 +8,7 @@ ghost use Rattle.printing.specs.Plays.{ComesTo, Plays};
 use kinds::Kind;
 use phrases::{Happened, Playing};
 use plants::Plant;
-use runs::{Act, Answer, Call};
+use runs::{Act, Call};
 use std::alloc::{AllocError, Global};
 use texts::ScoreLine;
 
@@ -23,10 +23,7 @@ fn play_due<P: Plant>(
     ensures law { Law P.Value.Kind.ops P.Plant.meaning P.Plant.need playing playing phrase.now.phrase phrase.now.phrase result sheet.old sheet.new }
     ensures call { result.call ≡ due output beat value }
 {
-    let answer = match phrase.due(sheet, output, beat, value) {
-        Ok(()) => Answer::Done,
-        Err(why) => Answer::Refused { why },
-    };
+    let answer = phrase.due(sheet, output, beat, value).into();
     Act {
         call: Call::Due {
             output,
@@ -44,7 +41,7 @@ fn play_line<P: Plant>(
     line: ScoreLine<P::Value>,
 ) -> Happened<P::Value>
     ensures calls { ComesTo line (acts result) }
-    ensures same { (phrase.new.phrase.plant ≡ phrase.old.phrase.plant) × (phrase.new.phrase.horizon ≡ phrase.old.phrase.horizon) }
+    ensures same { Stays phrase.old.phrase phrase.new.phrase }
     ensures law { Follows P.Value.Kind.ops P.Plant.meaning P.Plant.need phrase.old.phrase phrase.new.phrase (acts result) sheet.old sheet.new }
 {
     match line {
@@ -52,9 +49,9 @@ fn play_line<P: Plant>(
             output,
             beat,
             value,
-        } => Happened::One(play_due(phrase, sheet, output as usize, beat as usize, value)),
-        ScoreLine::Fire { input, value } => phrase.fire_next(sheet, input as usize, value),
-        ScoreLine::Miss { input } => phrase.miss_next(sheet, input as usize),
+        } => Happened::One(play_due(phrase, sheet, usize::from(output), usize::from(beat), value)),
+        ScoreLine::Fire { input, value } => phrase.fire_next(sheet, usize::from(input), value),
+        ScoreLine::Miss { input } => phrase.miss_next(sheet, usize::from(input)),
     }
 }
 
@@ -84,7 +81,7 @@ pub(crate) fn play_lines<P: Plant>(
     sheet: &mut [P::Value],
     lines: &[ScoreLine<P::Value>],
 ) -> Result<Vec<Act<P::Value>>, AllocError>
-    ensures same { (phrase.new.phrase.plant ≡ phrase.old.phrase.plant) × (phrase.new.phrase.horizon ≡ phrase.old.phrase.horizon) }
+    ensures same { Stays phrase.old.phrase phrase.new.phrase }
     ensures calls { IfOk result (λ v. Plays lines.now v.items) }
     ensures law { IfOk result (λ v. Follows P.Value.Kind.ops P.Plant.meaning P.Plant.need phrase.old.phrase phrase.new.phrase v.items sheet.old sheet.new) }
 {

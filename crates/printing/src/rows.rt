@@ -1,82 +1,54 @@
-ghost use Rattle.std.specs.Prelude.{◌≡◌, ◌+◌, ◌<◌, ◌≤◌, ◌++◌, length, OnOk, slice_index_or};
-ghost use Rattle.printing.specs.ActLines.{act_line};
-ghost use Rattle.listing.specs.CardLines.{card_line};
+ghost use Rattle.std.specs.Prelude.{◌≡◌, ◌++◌, length, OnOk, string_bytes};
 ghost use Rattle.plants.specs.Meaning.{block as block_at};
-ghost use Rattle.printing.specs.Rows.{row, row_if, act_rows, cell_rows};
+ghost use Rattle.printing.specs.ActLines.{act_line};
+ghost use Rattle.printing.specs.Rows.{row_if, act_rows, cell_rows};
 
 use crate::acts::act_line;
-use kinds::Kind;
 use listing::{Block, CardLine};
 use numerals::CardKind;
 use plants::Horizon;
 use runs::Act;
-use std::alloc::{AllocError, Global};
+use std::alloc::AllocError;
 
-// Appends a line of the card, and its end.
-pub(crate) fn write_line<T: CardKind>(
-    heap: Global,
-    line: CardLine<T>,
-    out: &mut Vec<u8>,
-) -> Result<(), AllocError>
-    ensures { OnOk result (out.new.items ≡ out.old.items ++ row (card_line T.CardKind.text line)) }
+// Appends the line of a call, if a card lists it.
+fn write_act<T: CardKind>(act: Act<T>, out: &mut String) -> Result<(), AllocError>
+    ensures { OnOk result (string_bytes out.new ≡ string_bytes out.old ++ row_if T.CardKind.text (act_line T.Kind.ops.bottom act)) }
 {
-    let bytes = line.bytes(heap)?;
-    out.extend_from_slice(bytes.as_slice())?;
-    out.push(b'\n')?;
-    Ok(())
-}
-
-fn write_act<T: CardKind>(heap: Global, act: Act<T>, out: &mut Vec<u8>) -> Result<(), AllocError>
-    ensures { OnOk result (out.new.items ≡ out.old.items ++ row_if T.CardKind.text (act_line T.Kind.ops.bottom act)) }
-{
-    if let Some(line) = act_line(act) {
-        write_line(heap, line, out)?;
+    match act_line(act) {
+        Some(line) => writeln!(out, "{line}"),
+        None => Ok(()),
     }
-    Ok(())
 }
 
 // Appends the lines of the calls that a card lists.
-pub(crate) fn write_acts<T: CardKind>(
-    heap: Global,
-    acts: &[Act<T>],
-    out: &mut Vec<u8>,
-) -> Result<(), AllocError>
-    ensures { OnOk result (out.new.items ≡ out.old.items ++ act_rows T.CardKind.text T.Kind.ops.bottom acts.now) }
+pub(crate) fn write_acts<T: CardKind>(acts: &[Act<T>], out: &mut String) -> Result<(), AllocError>
+    ensures { OnOk result (string_bytes out.new ≡ string_bytes out.old ++ act_rows T.CardKind.text T.Kind.ops.bottom acts.now) }
 {
     for act in acts {
-        write_act(heap, *act, out)?;
+        write_act(*act, out)?;
     }
     Ok(())
 }
 
-fn read<T: Kind>(sheet: &[T], at: usize) -> T
-    requires { at < length sheet.now }
-    ensures { result ≡ slice_index_or sheet.now at T.Kind.ops.bottom }
-{
-    sheet[at]
-}
-
-// Appends a line for each of `count` cells from `start`, by wire, then beat.
+// Appends a line for each of the cells, by wire, then beat. Not one loop with the report's, as
+// said there.
 pub(crate) fn write_block<T: CardKind>(
-    heap: Global,
     block: Block,
     k: Horizon,
-    sheet: &[T],
-    start: usize,
-    count: usize,
-    out: &mut Vec<u8>,
+    cells: &[T],
+    out: &mut String,
 ) -> Result<(), AllocError>
-    requires { start + count ≤ length sheet.now }
-    ensures { OnOk result (out.new.items ≡ out.old.items ++ cell_rows T.CardKind.text block k.beats (block_at T.Kind.ops sheet.now start k.beats) count) }
+    ensures { OnOk result (string_bytes out.new ≡ string_bytes out.old ++ cell_rows T.CardKind.text block k.beats (block_at T.Kind.ops cells.now 0 k.beats) (length cells.now)) }
 {
-    for n in 0..count {
+    let beats = k.beats();
+    for (n, value) in cells.iter().enumerate() {
         let line = CardLine::Cell {
             block,
-            wire: n / k.beats(),
-            beat: n % k.beats(),
-            value: read(sheet, start + n),
+            wire: n / beats,
+            beat: n % beats,
+            value: *value,
         };
-        write_line(heap, line, out)?;
+        writeln!(out, "{line}")?;
     }
     Ok(())
 }

@@ -17,19 +17,19 @@ pub(crate) fn read_lines<T: CardKind>(
     heap: Global,
     mut score: ScoreReader<'_>,
 ) -> Result<Heard<T>, AllocError>
-    ensures { IfOk result (λ h. Reads T.CardKind.reading score.entry.text.now score.entry.at h.lines.items h.end) }
+    ensures { IfOk result (λ h. Reads T.CardKind.reading score.entry.lines.text.now score.entry.lines.at h.lines.items h.end) }
 {
     let mut lines = Vec::new(heap);
     loop {
         match score.next_line() {
-            Ok(next) => match next {
-                Some(line) => lines.push(line)?,
-                None => return Ok(Heard { lines, end: Ok(()) }),
-            },
-            Err(fault) => return Ok(Heard {
-                lines,
-                end: Err(fault),
-            }),
+            Ok(Some(line)) => lines.push(line)?,
+            Ok(None) => return Ok(Heard { lines, end: Ok(()) }),
+            Err(fault) => {
+                return Ok(Heard {
+                    lines,
+                    end: Err(fault),
+                });
+            }
         }
     }
 }

@@ -111,14 +111,6 @@ module _ {V : Type 0} {o : Ops V} (L : Laws o) (M : Meaning V) (K : ℕ) where
           (λ ej ek. under_eq _ _ _ (λ n. u (sym ej n) (sym ek n)) (below j k hj hk))
           (λ ne. under_ceiling L M K w z me j k hj hk)))
 
-  -- after a lay
-  pub lay_best : (g u : Block V) → ((i b : ℕ) → i < M.inputs → b < K → u i b ≡ o.top) → Best o M K (λ y k. o.top) (λ i. 0) g u
-  lay_best g u tops = record {
-    meets = λ y k hy hk. L.below_top _;
-    agrees = λ i b hi lt. absurd (omega arith);
-    greatest = λ w ag me i b hi hb. subst (AtMost o (w i b)) (sym (tops i b hi hb)) (L.below_top (w i b));
-  }
-
   -- two best plans are one
   pub best_one : (z : Block V) (f : ℕ → ℕ) (g u u' : Block V) → Best o M K z f g u → Best o M K z f g u' → (i b : ℕ) → i < M.inputs → b < K → u i b ≡ u' i b
   best_one z f g u u' p q i b hi hb = both_least L _ _ (q.greatest u p.agrees p.meets i b hi hb) (p.greatest u' q.agrees q.meets i b hi hb)

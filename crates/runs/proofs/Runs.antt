@@ -4,15 +4,15 @@ use Rattle.std.proofs.lemmas.Bool.{cond-true, cond-false, eq-eqb, ne_eqb, cases_
 use Rattle.kinds.specs.Kind.{Ops, Laws, AtMost}
 use Rattle.plants.specs.Meaning.{Meaning, backward_cell}
 use Rattle.runs.specs.Plans.{Block, Same, put, Agrees, Best}
-use Rattle.runs.specs.History.{Run, Stage, playing, ended, takes, given, nothing, deed, stage_by, laid_by, score_by, fixed_by, held_by, out_by, stage_of, laid_in, score_of, fixed_of, held_of, out_of, Laid, Ours, Fair, Sound}
+use Rattle.runs.specs.History.{Run, Stage, takes, given, nothing, deed, stage_by, laid_by, score_by, fixed_by, held_by, out_by, stage_of, laid_in, score_of, fixed_of, held_of, out_of, Laid, Ours, Fair, Sound}
 use Rattle.runs.specs.declared.acts.Act.{Act}
 use Rattle.runs.specs.declared.acts.Answer.{Answer}
 use Rattle.runs.specs.declared.acts.Answer.TheVariants.{Done, Ordered, Refused}
 use Rattle.runs.specs.declared.acts.Call.{Call}
-use Rattle.runs.specs.declared.acts.Call.TheVariants.{Lay, Due, Start, Order, End}
+use Rattle.runs.specs.declared.acts.Call.TheVariants.{Due, Order}
 use Rattle.kinds.specs.declared.refusals.Refusal.TheVariants.{NoPlan}
 use Rattle.runs.proofs.Puts.{put_congr}
-use Rattle.runs.proofs.Rivals.{best_same, due_best, due_none, order_best, give_best, lay_best}
+use Rattle.runs.proofs.Rivals.{best_same, due_best, due_none, order_best, give_best}
 
 abbrev pub act : {V : Type 0} → Call V → Answer V → Act V
 act c r = record { call = c; answer = r }
@@ -48,12 +48,6 @@ module _ {V : Type 0} {o : Ops V} (L : Laws o) (M : Meaning V) (K : ℕ) (room :
               (best_same L M K (score_of o h) (score_of o h) (fixed_of o h) (fixed_of o h) (held_of o h) u u' (λ y k hy hk. refl) (λ i hi. refl) few_of eu (old.best (before l)));
           fair = (fair, old.fair);
         }
-
-    pub start_step : takes {V = V} Start g ≡ true → Sound o M K room playing (act Start Done ∷ h) z u f t
-    start_step tk = record { staged = refl; counted = old.counted; lent = old.lent; scored = old.scored; best = old.best; fair = ((taken_now Start true tk, tt), old.fair) }
-
-    pub end_step : takes {V = V} End g ≡ true → Sound o M K room ended (act End Done ∷ h) z u f t
-    end_step tk = record { staged = refl; counted = old.counted; lent = old.lent; scored = old.scored; best = old.best; fair = ((taken_now End true tk, tt), old.fair) }
 
     -- an accepted due
     pub due_step : (y k : ℕ) (v : V) (z' u' : Block V) → takes (Due y k v) g ≡ true → room ≡ true → y < M.outputs → k < K → Same K M.outputs z' (put y k v z) →
@@ -151,15 +145,3 @@ module _ {V : Type 0} {o : Ops V} (L : Laws o) (M : Meaning V) (K : ℕ) (room :
               (give_best L M K (score_of o h) (fixed_of o h) (held_of o h) u i b v (old.best (before l)) hi lt (few_of i hi) le));
           fair = (fair, old.fair);
         }
-
-    -- an accepted lay: no beat is fixed and no order is out
-    pub lay_step : takes {V = V} Lay g ≡ true → room ≡ true → (z' u' : Block V) → Same K M.outputs z' (λ y k. o.top) → Same K M.inputs u' (λ i b. o.top) →
-        ((i : ℕ) → i < M.inputs → f i ≡ 0) → ((i : ℕ) → i < M.inputs → t i ≡ false) → Sound o M K room g (act Lay Done ∷ h) z' u' f t
-    lay_step tk rm z' u' ez eu ef et = record {
-      staged = old.staged;
-      counted = ef;
-      lent = et;
-      scored = λ l. ez;
-      best = λ l. lay_best L M K (held_of o h) u' eu;
-      fair = ((taken_now Lay true tk, rm), old.fair);
-    }

@@ -3,3 +3,4 @@ pub mod Refusals
 pub mod History
 pub mod Performed
 pub mod Theorems
+pub mod Told

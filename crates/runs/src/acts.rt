@@ -1,7 +1,7 @@
 use kinds::Refusal;
 
 // One call of a run, with the order of a firing or a miss by its numbers.
-#[derive(Clone, Copy)]
+#[derive(Clone, Copy, PartialEq, Eq, Debug)]
 pub enum Call<T> {
     Lay,
     Due {
@@ -27,8 +27,9 @@ pub enum Call<T> {
 }
 
 // What a call is answered. An order tells its beat and the plan value that it found;
-// `Untaken` is a call that a phrase does not take at its stage.
-#[derive(Clone, Copy)]
+// `Untaken` is a call that a phrase does not take at its stage. One enum: as an Option of a
+// Result of an Option its four cases would have no names.
+#[derive(Clone, Copy, PartialEq, Eq, Debug)]
 pub enum Answer<T> {
     Done,
     Ordered { beat: usize, found: T },
@@ -37,7 +38,7 @@ pub enum Answer<T> {
 }
 
 // A call with its answer.
-#[derive(Clone, Copy)]
+#[derive(Clone, Copy, PartialEq, Eq, Debug)]
 pub struct Act<T> {
     pub call: Call<T>,
     pub answer: Answer<T>,

@@ -1,6 +1,8 @@
 pub mod Splits
 pub mod Faults
+pub mod FaultLines
 pub mod Fields
+pub mod Letters
 pub mod Lines
 pub mod NetLines
 pub mod NetTexts

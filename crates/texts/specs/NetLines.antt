@@ -1,6 +1,6 @@
 -- What a line of a net says: its letter, then the number of its fields, then each field from the left.
-use Rattle.std.specs.Prelude.{ℕ, cond, List, length, Some, None, Ok, Option, Result, ◌==◌, slice_index}
-use Rattle.kinds.specs.declared.refusals.Refusal.TheVariants.{Shape, Spelling}
+use Rattle.std.specs.Prelude.{ℕ, cond, List, Some, None, Ok, Option, Result, ◌==◌, ok_or}
+use Rattle.kinds.specs.declared.refusals.Refusal.TheVariants.{Spelling}
 use Rattle.links.specs.declared.Sort.{Sort}
 use Rattle.links.specs.declared.Sort.TheVariants.{Place, Input, Output}
 use Rattle.links.specs.declared.Link.{Link}
@@ -11,15 +11,16 @@ use Rattle.texts.specs.declared.nets.ValueKind.{ValueKind}
 use Rattle.texts.specs.declared.nets.ValueKind.TheVariants.{Dates, Levels, Sets}
 use Rattle.texts.specs.declared.nets.Header.{Header}
 use Rattle.texts.specs.Splits.{fields}
-use Rattle.texts.specs.Faults.{wrong, then, check}
-use Rattle.texts.specs.Fields.{field_at, index_at, count_at, value_at}
+use Rattle.texts.specs.Faults.{then}
+use Rattle.texts.specs.Fields.{letter_at, index_at, count_at, value_at}
+use Rattle.texts.specs.Letters.{opened, first_by}
 
 -- the kind letter: D, L or S
-abbrev pub kind_by : ℕ → Result ValueKind Wrong
-kind_by c = cond (c == 68) (Ok Dates) (cond (c == 76) (Ok Levels) (cond (c == 83) (Ok Sets) (wrong Spelling 2)))
+abbrev pub kind_by : ℕ → Option ValueKind
+kind_by c = cond (c == 68) (Some Dates) (cond (c == 76) (Some Levels) (cond (c == 83) (Some Sets) None))
 
 abbrev pub kind_at : List (List ℕ) → Result ValueKind Wrong
-kind_at fs = cond (length (field_at fs 2) == 1) (kind_by (slice_index (field_at fs 2) 0)) (wrong Spelling 2)
+kind_at fs = then (letter_at fs 2 Spelling) (λ b. ok_or (kind_by b) (record { refusal = Spelling; field = 2 }))
 
 abbrev pub header_of : List (List ℕ) → Result Header Wrong
 header_of fs =
@@ -31,18 +32,11 @@ header_of fs =
 
 -- `N,kind,transitions,inputs,outputs`
 abbrev pub header_line : List ℕ → Result Header Wrong
-header_line line =
-    check (length (field_at (fields line) 1) == 1) Shape 1
-    (check (slice_index (field_at (fields line) 1) 0 == 78) Shape 1
-    (check (length (fields line) == 5) Shape 0
-    (header_of (fields line))))
+header_line line = first_by 78 5 header_of (fields line)
 
 -- the letters P, I and O
 abbrev pub sort_by : ℕ → Option Sort
 sort_by c = cond (c == 80) (Some Place) (cond (c == 73) (Some Input) (cond (c == 79) (Some Output) None))
-
-abbrev pub sort_of : List ℕ → Option Sort
-sort_of bs = cond (length bs == 1) (sort_by (slice_index bs 0)) None
 
 -- `P,from,to,tokens,value`, `I,input,to,value` and `O,from,output,value`: the value stands last
 abbrev pub arity : Sort → ℕ
@@ -75,9 +69,5 @@ link_of reading n s fs =
     then (value_at reading fs (arity s)) (λ value.
     Ok (record { sort = s; from = from; to = to; tokens = tokens; value = value })))))
 
-abbrev pub sorted_link : {T : Type 0} → (List ℕ → Result T Misread) → Counts → Option Sort → List (List ℕ) → Result (Link T) Wrong
-sorted_link reading n None fs = wrong Shape 1
-sorted_link reading n (Some s) fs = check (length fs == arity s) Shape 0 (link_of reading n s fs)
-
 abbrev pub net_line : {T : Type 0} → (List ℕ → Result T Misread) → Counts → List ℕ → Result (Link T) Wrong
-net_line reading n line = sorted_link reading n (sort_of (field_at (fields line) 1)) (fields line)
+net_line reading n line = then (opened sort_by arity (fields line)) (λ s. link_of reading n s (fields line))

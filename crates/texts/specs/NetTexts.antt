@@ -10,48 +10,30 @@ use Rattle.texts.specs.declared.faults.TextName.TheVariants.{Net}
 use Rattle.texts.specs.declared.positions.Position.{Position}
 use Rattle.texts.specs.declared.nets.Header.{Header}
 use Rattle.texts.specs.Splits.{pieces}
-use Rattle.texts.specs.Faults.{then, check, fault_at, faulted}
-use Rattle.texts.specs.Lines.{within, line_of}
+use Rattle.texts.specs.Faults.{then, check, fault_at}
+use Rattle.texts.specs.Lines.{within, line_of, line_from}
 use Rattle.texts.specs.NetLines.{header_line, net_line}
 
-abbrev pub first_line : List ℕ → Result Header Wrong
-first_line rest = then (line_of rest) header_line
-
 -- the header that the line at a position gives
-abbrev pub header_by : List ℕ → Position → Result (Unit {0}) Fault → Result Header Fault
-header_by text at (Err f) = Err f
-header_by text at (Ok _) = faulted Net (at.line + 1) (first_line (drop at.place text))
-
 abbrev pub header_from : List ℕ → Position → Result Header Fault
-header_from text at = header_by text at (within Net text)
+header_from text at = line_from Net header_line text at
 
 -- the table has a free cell, and fewer than 320 links stand in it
 abbrev pub has_space : ℕ → ℕ → Bool
 has_space size count = nat_lt count size && nat_lt count 320
 
 -- the link of a line, where `space` tells if the table has space
-abbrev pub linked : {T : Type 0} → (List ℕ → Result T Misread) → Counts → Result (List ℕ) Wrong → Bool → Result (Link T) Wrong
-linked reading n line space =
-    then line (λ l.
+abbrev pub fitting : {T : Type 0} → (List ℕ → Result T Misread) → Counts → Bool → List ℕ → Result (Link T) Wrong
+fitting reading n space l =
     then (net_line reading n l) (λ link.
-    check space Full 0 (Ok link)))
+    check space Full 0 (Ok link))
+
+abbrev pub linked : {T : Type 0} → (List ℕ → Result T Misread) → Counts → Result (List ℕ) Wrong → Bool → Result (Link T) Wrong
+linked reading n line space = then line (fitting reading n space)
 
 -- the link that the next line gives to a table of `size` cells in which `count` links stand
 abbrev pub step_of : {T : Type 0} → (List ℕ → Result T Misread) → Counts → List ℕ → Position → ℕ → ℕ → Result (Link T) Wrong
 step_of reading n text at size count = linked reading n (line_of (drop at.place text)) (has_space size count)
-
--- what one line leaves: an accepted link goes into the table, a refused line leaves it as it was
-abbrev pub told : {A : Type 0} → Result A Wrong → Result (Unit {0}) Wrong
-told (Ok x) = Ok tt
-told (Err w) = Err w
-
-abbrev pub table_after : {A : Type 0} → Result A Wrong → List A → ℕ → List A
-table_after (Ok x) table count = slice_set table count x
-table_after (Err w) table count = table
-
-abbrev pub count_after : {A : Type 0} → Result A Wrong → ℕ → ℕ
-count_after (Ok x) count = count + 1
-count_after (Err w) count = count
 
 -- what reading leaves: its answer, the reader's position, and the table with the number of its links
 pub record After (T : Type 0) : Type 0 where

@@ -1,5 +1,6 @@
 -- Lines and fields of a text.
 use Rattle.std.specs.Prelude.{ℕ, cond, List, [], ◌∷◌, ◌==◌}
+use Rattle.std.specs.List.{slice_split}
 
 -- the bytes before the first c, or all
 abbrev pub before : ℕ → List ℕ → List ℕ
@@ -11,15 +12,9 @@ abbrev pub after : ℕ → List ℕ → List ℕ
 after c [] = []
 after c (b ∷ bs) = cond (b == c) bs (after c bs)
 
--- b in front of the first piece
-abbrev pub onto : ℕ → List (List ℕ) → List (List ℕ)
-onto b [] = (b ∷ []) ∷ []
-onto b (f ∷ fs) = (b ∷ f) ∷ fs
-
 -- the pieces between the c's
 abbrev pub pieces : ℕ → List ℕ → List (List ℕ)
-pieces c [] = [] ∷ []
-pieces c (b ∷ bs) = cond (b == c) ([] ∷ pieces c bs) (onto b (pieces c bs))
+pieces c bs = slice_split (λ b. b == c) bs
 
 -- Commas part the fields of a line.
 abbrev pub fields : List ℕ → List (List ℕ)

@@ -2,6 +2,7 @@
 
 mod faults;
 mod fields;
+mod letters;
 mod nets;
 mod positions;
 mod scores;

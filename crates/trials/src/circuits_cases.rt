@@ -1,4 +1,4 @@
-use crate::makers::{copies_of, date, place};
+use crate::makers::{date, place};
 use circuits::{CircuitFault, check_circuits};
 use kinds::{Channels, Date, Kind, Level};
 use links::Link;
@@ -28,7 +28,7 @@ fn gives<T: Kind>(
     named: &[u8],
     case: &str,
 ) -> Result<(), Fail> {
-    let mut cells = copies_of(heap, 8192, T::top())?;
+    let mut cells = vec![in heap; T::top(); 8192]?;
     let mut list = [MARK; 64];
     assert_eq!(rt;
         check_circuits(links, transitions, cells.as_mut_slice(), &mut list),
@@ -165,10 +165,7 @@ fn ring(heap: Global, odd: Date) -> Result<Vec<Link<Date>>, AllocError> {
 fn rings(rt: HostRuntime) -> Result<(), Fail> {
     let heap = rt.alloc();
     let faulty = ring(heap, date(1))?;
-    let mut all = Vec::new(heap);
-    for transition in 0u8..64 {
-        all.push(transition)?;
-    }
+    let all = (0u8..64).collect::<Vec<u8>>(heap)?;
     refuses(
         &rt,
         heap,
@@ -232,8 +229,8 @@ fn measures(
 ) -> Result<(), Fail> {
     let mark = date(77);
     let links = [place(0, 0, 0, gain)];
-    let mut sheet = copies_of(heap, cells, mark)?;
-    let mut list = copies_of(heap, room, MARK)?;
+    let mut sheet = vec![in heap; mark; cells]?;
+    let mut list = vec![in heap; MARK; room]?;
     assert_eq!(rt;
         check_circuits(&links, n, sheet.as_mut_slice(), list.as_mut_slice()),
         wanted,
@@ -290,7 +287,7 @@ fn levels_and_sets(rt: HostRuntime) -> Result<(), Fail> {
         2,
         "levels",
     )?;
-    let all = Channels::new(0xffff);
+    let all = Channels::from(0xffff);
     accepts(
         &rt,
         heap,

@@ -3,10 +3,7 @@ use plants::Horizon;
 
 // The beats of the horizon of a number, or its refusal.
 fn beats_of(beats: usize) -> Result<usize, Refusal> {
-    match Horizon::new(beats) {
-        Ok(k) => Ok(k.beats()),
-        Err(refusal) => Err(refusal),
-    }
+    Ok(Horizon::try_from(beats)?.beats())
 }
 
 #[test]

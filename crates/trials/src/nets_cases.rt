@@ -118,38 +118,38 @@ fn sets(rt: HostRuntime) -> Result<(), Fail> {
     let heap = rt.alloc();
     let links = links_of(
         heap,
-        Channels::new(0x0ff0),
-        Channels::new(0xfbff),
-        Channels::new(0xf0ff),
-        Channels::new(0xff3f),
+        Channels::from(0x0ff0),
+        Channels::from(0xfbff),
+        Channels::from(0xf0ff),
+        Channels::from(0xff3f),
     )?;
     let net = Net::new(links.as_slice(), 2, 1, 1);
-    let mark = Channels::new(0x5a5a);
+    let mark = Channels::from(0x5a5a);
     let played = [
-        Channels::new(0xffff),
-        Channels::new(0),
-        Channels::new(0x0102),
+        Channels::from(0xffff),
+        Channels::from(0),
+        Channels::from(0x0102),
     ];
     let heard = [
-        Channels::new(0x0b30),
-        Channels::new(0x0030),
-        Channels::new(0x0130),
+        Channels::from(0x0b30),
+        Channels::from(0x0030),
+        Channels::from(0x0130),
     ];
     strikes(&rt, heap, &net, mark, &played, &heard, "forward")?;
     let dues = [
-        Channels::new(0x0030),
-        Channels::new(0x0b10),
-        Channels::new(0x0130),
+        Channels::from(0x0030),
+        Channels::from(0x0b10),
+        Channels::from(0x0130),
     ];
     let plan = [
-        Channels::new(0xf4df),
-        Channels::new(0xffdf),
-        Channels::new(0xf5ff),
+        Channels::from(0xf4df),
+        Channels::from(0xffdf),
+        Channels::from(0xf5ff),
     ];
     let kept = [
-        Channels::new(0x0010),
-        Channels::new(0x0b10),
-        Channels::new(0x0130),
+        Channels::from(0x0010),
+        Channels::from(0x0b10),
+        Channels::from(0x0130),
     ];
     recalls(&rt, heap, &net, mark, &dues, &plan, "backward")?;
     strikes(&rt, heap, &net, mark, &plan, &kept, "plan played")

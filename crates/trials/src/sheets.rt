@@ -1,6 +1,6 @@
-use crate::makers::copies_of;
 use kinds::{Kind, Refusal};
 use plants::{Horizon, Places, Plant};
+use routes::Way;
 use std::alloc::{AllocError, Global};
 use std::fmt::Debug;
 use std::process::Abort;
@@ -17,17 +17,11 @@ fn sheet_of<T: Kind>(
 ) -> Result<Vec<T>, AllocError> {
     let mut sheet = Vec::new(heap);
     sheet.push(mark)?;
-    for cell in inputs {
-        sheet.push(*cell)?;
-    }
+    sheet.extend_from_slice(inputs)?;
     sheet.push(mark)?;
-    for cell in outputs {
-        sheet.push(*cell)?;
-    }
+    sheet.extend_from_slice(outputs)?;
     sheet.push(mark)?;
-    for _cell in 0..need {
-        sheet.push(mark)?;
-    }
+    sheet.extend_from_slice(vec![in heap; mark; need]?.as_slice())?;
     sheet.push(mark)?;
     Ok(sheet)
 }
@@ -58,24 +52,48 @@ fn agree<T: Kind + PartialEq + Debug>(
     }
 }
 
-// The input block drives this output block, and no other cell is changed but the working cells.
-pub(crate) fn strikes<T: Kind + PartialEq + Debug, P: Plant<Value = T>>(
+// A call of a plant, one way or the other.
+fn call<P: Plant>(
+    plant: &P,
+    way: Way,
+    k: Horizon,
+    sheet: &mut [P::Value],
+    at: Places,
+) -> Result<(), Refusal> {
+    match way {
+        Way::Forth => plant.forward(k, sheet, at),
+        Way::Back => plant.backward(k, sheet, at),
+    }
+}
+
+// One way of a plant brings about the block asked for, and no other cell is changed but the
+// working cells. The parts of a case stay parameters: a struct would be written out at each call.
+fn gives<T: Kind + PartialEq + Debug, P: Plant<Value = T>>(
     rt: &impl Abort,
     heap: Global,
     plant: &P,
     mark: T,
+    way: Way,
     inputs: &[T],
     outputs: &[T],
     case: &str,
 ) -> Result<(), Fail> {
-    let k = Horizon::new(3)?;
+    let k = Horizon::try_from(3)?;
     let need = plant.need(k);
-    let blank = copies_of(heap, outputs.len(), mark)?;
-    let mut sheet = sheet_of(heap, inputs, blank.as_slice(), need, mark)?;
+    let mut sheet = match way {
+        Way::Forth => {
+            let blank = vec![in heap; mark; outputs.len()]?;
+            sheet_of(heap, inputs, blank.as_slice(), need, mark)?
+        }
+        Way::Back => {
+            let blank = vec![in heap; mark; inputs.len()]?;
+            sheet_of(heap, blank.as_slice(), outputs, need, mark)?
+        }
+    };
     let wanted = sheet_of(heap, inputs, outputs, need, mark)?;
     let at = places_of(inputs.len(), outputs.len());
     assert_eq!(rt;
-        plant.forward(k, sheet.as_mut_slice(), at),
+        call(plant, way, k, sheet.as_mut_slice(), at),
         Ok(()),
         "{case}"
     );
@@ -90,7 +108,20 @@ pub(crate) fn strikes<T: Kind + PartialEq + Debug, P: Plant<Value = T>>(
     Ok(())
 }
 
-// The greatest input block for this output block, and no other cell is changed but the working cells.
+// The input block drives this output block.
+pub(crate) fn strikes<T: Kind + PartialEq + Debug, P: Plant<Value = T>>(
+    rt: &impl Abort,
+    heap: Global,
+    plant: &P,
+    mark: T,
+    inputs: &[T],
+    outputs: &[T],
+    case: &str,
+) -> Result<(), Fail> {
+    gives(rt, heap, plant, mark, Way::Forth, inputs, outputs, case)
+}
+
+// The greatest input block for this output block.
 pub(crate) fn recalls<T: Kind + PartialEq + Debug, P: Plant<Value = T>>(
     rt: &impl Abort,
     heap: Global,
@@ -100,26 +131,7 @@ pub(crate) fn recalls<T: Kind + PartialEq + Debug, P: Plant<Value = T>>(
     inputs: &[T],
     case: &str,
 ) -> Result<(), Fail> {
-    let k = Horizon::new(3)?;
-    let need = plant.need(k);
-    let blank = copies_of(heap, inputs.len(), mark)?;
-    let mut sheet = sheet_of(heap, blank.as_slice(), outputs, need, mark)?;
-    let wanted = sheet_of(heap, inputs, outputs, need, mark)?;
-    let at = places_of(inputs.len(), outputs.len());
-    assert_eq!(rt;
-        plant.backward(k, sheet.as_mut_slice(), at),
-        Ok(()),
-        "{case}"
-    );
-    agree(
-        rt,
-        sheet.as_slice(),
-        wanted.as_slice(),
-        at.working,
-        need,
-        case,
-    );
-    Ok(())
+    gives(rt, heap, plant, mark, Way::Back, inputs, outputs, case)
 }
 
 // Both calls give this result at these places of a sheet of `len` cells, 3 beats to a wire.
@@ -134,24 +146,18 @@ pub(crate) fn answers<T: Kind + PartialEq + Debug, P: Plant<Value = T>>(
     wanted: Result<(), Refusal>,
     case: &str,
 ) -> Result<(), Fail> {
-    let k = Horizon::new(3)?;
-    let before = copies_of(heap, len, mark)?;
-    let mut sheet = copies_of(heap, len, mark)?;
-    assert_eq!(rt;
-        plant.forward(k, sheet.as_mut_slice(), at),
-        wanted,
-        "{case}"
-    );
-    if wanted.is_err() {
-        agree(rt, sheet.as_slice(), before.as_slice(), len, 0, case);
-    }
-    assert_eq!(rt;
-        plant.backward(k, sheet.as_mut_slice(), at),
-        wanted,
-        "{case}"
-    );
-    if wanted.is_err() {
-        agree(rt, sheet.as_slice(), before.as_slice(), len, 0, case);
+    let k = Horizon::try_from(3)?;
+    let before = vec![in heap; mark; len]?;
+    let mut sheet = vec![in heap; mark; len]?;
+    for way in [Way::Forth, Way::Back] {
+        assert_eq!(rt;
+            call(plant, way, k, sheet.as_mut_slice(), at),
+            wanted,
+            "{case}"
+        );
+        if wanted.is_err() {
+            agree(rt, sheet.as_slice(), before.as_slice(), len, 0, case);
+        }
     }
     Ok(())
 }
@@ -163,7 +169,7 @@ pub(crate) fn needs<P: Plant>(
     beats: usize,
     cells: usize,
 ) -> Result<(), Fail> {
-    let k = Horizon::new(beats)?;
+    let k = Horizon::try_from(beats)?;
     assert_eq!(rt; plant.need(k), cells);
     Ok(())
 }

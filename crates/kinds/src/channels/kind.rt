@@ -5,14 +5,16 @@ ghost use Rattle.kinds.specs.SetLaws.{set_laws};
 use crate::Kind;
 use crate::channels::Channels;
 
-impl Channels {
-    // The set whose channels are the bits that are set.
-    pub fn new(bits: u16) -> Channels
-        ensures { result ≡ of_bits bits }
-    {
+// The set whose channels are the bits that are set.
+impl From<u16> for Channels {
+    ghost from_gives = { λ n s. s ≡ of_bits n };
+
+    fn from(bits: u16) -> Channels {
         Channels { bits }
     }
+}
 
+impl Channels {
     // Whether the set holds a channel. In words of channels, join is union, meet and
     // product are intersection, and the residual holds each channel outside the
     // first set or in the second.
@@ -27,37 +29,38 @@ impl Channels {
     }
 }
 
+// The order by hand: sets are ordered by inclusion, and a derive would order their bits.
 impl Kind for Channels {
     ghost ops = { set_ops };
 
     ghost laws = { set_laws };
 
     fn bottom() -> Channels {
-        Channels::new(0)
+        Channels::from(0)
     }
 
     fn one() -> Channels {
-        Channels::new(0xffff)
+        Channels::from(0xffff)
     }
 
     fn top() -> Channels {
-        Channels::new(0xffff)
+        Channels::from(0xffff)
     }
 
     fn join(self, other: Channels) -> Channels {
-        Channels::new(self.bits | other.bits)
+        Channels::from(self.bits | other.bits)
     }
 
     fn meet(self, other: Channels) -> Channels {
-        Channels::new(self.bits & other.bits)
+        Channels::from(self.bits & other.bits)
     }
 
     fn product(self, other: Channels) -> Channels {
-        Channels::new(self.bits & other.bits)
+        Channels::from(self.bits & other.bits)
     }
 
     fn residual(self, other: Channels) -> Channels {
-        Channels::new((self.bits ^ 0xffff) | other.bits)
+        Channels::from((self.bits ^ 0xffff) | other.bits)
     }
 
     fn at_most(self, other: Channels) -> bool {

@@ -1,9 +1,10 @@
-ghost use Rattle.std.specs.Prelude.{◌≡◌, ◌≤◌};
+ghost use Rattle.std.specs.Prelude.{◌≡◌, ◌≤◌, ok_or};
+ghost use Rattle.kinds.specs.declared.refusals.Refusal.TheVariants.{Range};
 ghost use Rattle.kinds.specs.Dates.{date_ops, at, tick, new_tick};
 ghost use Rattle.kinds.specs.DateLaws.{date_laws};
 
-use crate::Kind;
 use crate::dates::{Date, Tick};
+use crate::{Kind, Refusal};
 
 // The one place that makes a tick, so that one proof ties it to its number.
 fn tick_of(value: u32) -> Tick
@@ -13,15 +14,17 @@ fn tick_of(value: u32) -> Tick
     Tick { value }
 }
 
-impl Tick {
-    // The tick of a number of milliseconds, if it is in range.
-    pub fn new(value: u32) -> Option<Tick>
-        ensures { result ≡ new_tick value }
-    {
+// The tick of a number of milliseconds, if it is in range.
+impl TryFrom<u32> for Tick {
+    type Error = Refusal;
+
+    ghost try_from_gives = { λ n r. r ≡ ok_or (new_tick n) Range };
+
+    fn try_from(value: u32) -> Result<Tick, Refusal> {
         if value <= 1_000_000 {
-            Some(tick_of(value))
+            Ok(tick_of(value))
         } else {
-            None
+            Err(Refusal::Range)
         }
     }
 }
@@ -44,84 +47,34 @@ impl Kind for Date {
     }
 
     fn join(self, other: Date) -> Date {
-        match self {
-            Date::Never => other,
-            Date::At(s) => match other {
-                Date::Never => self,
-                Date::At(t) => if s.value <= t.value { other } else { self },
-                Date::Open => Date::Open,
-            },
-            Date::Open => Date::Open,
-        }
+        self.max(other)
     }
 
     fn meet(self, other: Date) -> Date {
-        match self {
-            Date::Never => Date::Never,
-            Date::At(s) => match other {
-                Date::Never => Date::Never,
-                Date::At(t) => if s.value <= t.value { self } else { other },
-                Date::Open => self,
-            },
-            Date::Open => other,
-        }
+        self.min(other)
     }
 
     fn product(self, other: Date) -> Date {
-        match self {
-            Date::Never => Date::Never,
-            Date::At(s) => match other {
-                Date::Never => Date::Never,
-                Date::At(t) => {
-                    let sum = s.value + t.value;
-                    if sum <= 1_000_000 {
-                        Date::At(tick_of(sum))
-                    } else {
-                        Date::Open
-                    }
-                }
-                Date::Open => Date::Open,
-            },
-            Date::Open => match other {
-                Date::Never => Date::Never,
-                _ => Date::Open,
-            },
+        match (self, other) {
+            (Date::Never, _) | (_, Date::Never) => Date::Never,
+            (Date::At(s), Date::At(t)) if s.value + t.value <= 1_000_000 => {
+                Date::At(tick_of(s.value + t.value))
+            }
+            _ => Date::Open,
         }
     }
 
     fn residual(self, other: Date) -> Date {
-        match self {
-            Date::Never => Date::Open,
-            Date::At(s) => match other {
-                Date::Never => Date::Never,
-                Date::At(t) => {
-                    if t.value < s.value {
-                        Date::Never
-                    } else {
-                        Date::At(tick_of(t.value - s.value))
-                    }
-                }
-                Date::Open => Date::Open,
-            },
-            Date::Open => match other {
-                Date::Open => Date::Open,
-                _ => Date::Never,
-            },
+        match (self, other) {
+            (Date::Never, _) | (_, Date::Open) => Date::Open,
+            (Date::At(s), Date::At(t)) if s.value <= t.value => {
+                Date::At(tick_of(t.value - s.value))
+            }
+            _ => Date::Never,
         }
     }
 
     fn at_most(self, other: Date) -> bool {
-        match self {
-            Date::Never => true,
-            Date::At(s) => match other {
-                Date::Never => false,
-                Date::At(t) => s.value <= t.value,
-                Date::Open => true,
-            },
-            Date::Open => match other {
-                Date::Open => true,
-                _ => false,
-            },
-        }
+        self <= other
     }
 }

@@ -1,9 +1,10 @@
-ghost use Rattle.std.specs.Prelude.{◌≡◌, ◌≤◌};
+ghost use Rattle.std.specs.Prelude.{◌≡◌, ◌≤◌, ok_or};
+ghost use Rattle.kinds.specs.declared.refusals.Refusal.TheVariants.{Range};
 ghost use Rattle.kinds.specs.Levels.{level_ops, level, new_level};
 ghost use Rattle.kinds.specs.LevelLaws.{level_laws};
 
-use crate::Kind;
 use crate::levels::Level;
+use crate::{Kind, Refusal};
 
 // The one place that makes a level, so that one proof ties it to its number.
 fn level_of(value: u8) -> Level
@@ -13,15 +14,18 @@ fn level_of(value: u8) -> Level
     Level { value }
 }
 
-impl Level {
-    // The level of a number, if it is in range.
-    pub fn new(value: u32) -> Option<Level>
-        ensures { result ≡ new_level value }
-    {
+// The level of a number, if it is in range.
+impl TryFrom<u32> for Level {
+    type Error = Refusal;
+
+    ghost try_from_gives = { λ n r. r ≡ ok_or (new_level n) Range };
+
+    fn try_from(value: u32) -> Result<Level, Refusal> {
         if value <= 127 {
-            Some(level_of(value as u8))
+            // At most 127, so that no bit is lost.
+            Ok(level_of(value as u8))
         } else {
-            None
+            Err(Refusal::Range)
         }
     }
 }
@@ -44,19 +48,11 @@ impl Kind for Level {
     }
 
     fn join(self, other: Level) -> Level {
-        if self.value <= other.value {
-            other
-        } else {
-            self
-        }
+        self.max(other)
     }
 
     fn meet(self, other: Level) -> Level {
-        if self.value <= other.value {
-            self
-        } else {
-            other
-        }
+        self.min(other)
     }
 
     fn product(self, other: Level) -> Level {
@@ -64,14 +60,10 @@ impl Kind for Level {
     }
 
     fn residual(self, other: Level) -> Level {
-        if other.value < self.value {
-            other
-        } else {
-            level_of(127)
-        }
+        if other < self { other } else { level_of(127) }
     }
 
     fn at_most(self, other: Level) -> bool {
-        self.value <= other.value
+        self <= other
     }
 }

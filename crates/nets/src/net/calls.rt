@@ -1,12 +1,11 @@
 ghost use Rattle.std.specs.Prelude.{◌≡◌, ℕ, ◌+◌, ◌*◌, ◌<◌, ◌≤◌, length};
-ghost use Rattle.plants.specs.Meaning.{block};
-ghost use Rattle.plants.specs.Calls.{Filled, Forward, Backward};
+ghost use Rattle.plants.specs.Calls.{Forward, Backward};
 ghost use Rattle.plants.specs.Fits.{Fits};
 ghost use Rattle.walks.specs.Circuits.{Passes};
 ghost use Rattle.routes.specs.Routes.{ByRoutes};
-ghost use Rattle.nets.specs.Nets.{meant, meant_counted, net_need, given_of, asked_of, writes_of, answer_cell, staged, Driven, Solved, Bounded};
+ghost use Rattle.nets.specs.Nets.{meant, meant_counted, net_need, staged, Driven, Answer, Solved, Bounded};
 
-use crate::moves::{clear, play};
+use crate::floor::Floor;
 use crate::net::Net;
 use crate::stage::Stage;
 use kinds::{Kind, Refusal};
@@ -20,39 +19,28 @@ impl<T: Kind> Net<'_, T> {
         ensures { result ≡ staged self.now way k.beats at turn }
     {
         let beats = k.beats();
-        match way {
-            Way::Forth => Stage {
-                way: Way::Forth,
-                n: self.transitions,
-                beats,
-                turn,
-                beat: turn,
-                given: at.input,
-                reads: self.inputs,
-                asked: at.output,
-                writes: self.outputs,
-                working: at.working,
-            },
-            Way::Back => Stage {
-                way: Way::Back,
-                n: self.transitions,
-                beats,
-                turn,
-                beat: beats - 1 - turn,
-                given: at.output,
-                reads: self.outputs,
-                asked: at.input,
-                writes: self.inputs,
-                working: at.working,
-            },
+        let (beat, given, reads, asked, writes) = match way {
+            Way::Forth => (turn, at.input, self.inputs, at.output, self.outputs),
+            Way::Back => (
+                beats - 1 - turn,
+                at.output,
+                self.outputs,
+                at.input,
+                self.inputs,
+            ),
+        };
+        Stage {
+            way,
+            n: self.transitions,
+            beats,
+            turn,
+            beat,
+            given,
+            reads,
+            asked,
+            writes,
+            working: at.working,
         }
-    }
-
-    // A row of states for each beat, and a spare row.
-    fn cells_needed(&self, k: Horizon) -> usize
-        ensures { result ≡ net_need self.now k.beats }
-    {
-        (k.beats() + 1) * self.transitions
     }
 
     // Plays the turns one after the other.
@@ -63,18 +51,29 @@ impl<T: Kind> Net<'_, T> {
     {
         for turn in 0..k.beats() {
             let stage = self.stage(way, k, at, turn);
-            play(self.links, &stage, sheet);
+            let mut floor = Floor {
+                links: self.links,
+                stage,
+                sheet,
+            };
+            floor.play();
         }
     }
 
-    // Fills the block asked for with the answer to the given block.
-    fn answer(&self, way: Way, k: Horizon, sheet: &mut [T], at: Places)
-        requires { Fits self.now.inputs self.now.outputs k.beats (net_need self.now k.beats) at (length sheet.old) }
-        ensures { Filled T.Kind.ops k.beats (asked_of way at) (writes_of way self.now) at.working (net_need self.now k.beats) (answer_cell T.Kind.ops way self.now k.beats (block T.Kind.ops sheet.old (given_of way at) k.beats)) sheet.old sheet.new }
+    // Fills the block asked for with the answer to the given block, where the places suit the sheet.
+    fn answer(&self, way: Way, k: Horizon, sheet: &mut [T], at: Places) -> Result<(), Refusal>
+        ensures { Answer T.Kind.ops self.now way k.beats at sheet.old sheet.new result }
     {
-        let first = self.stage(way, k, at, 0);
-        clear(&first, sheet);
+        self.check_places(k, sheet.len(), at)?;
+        let stage = self.stage(way, k, at, 0);
+        let mut floor = Floor {
+            links: self.links,
+            stage,
+            sheet,
+        };
+        floor.clear();
         self.play_all(way, k, sheet, at);
+        Ok(())
     }
 }
 
@@ -95,39 +94,21 @@ impl<T: Kind> Plant for Net<'_, T> {
         self.outputs
     }
 
+    // A row of states for each beat, and a spare row.
     fn need(&self, k: Horizon) -> usize {
-        self.cells_needed(k)
+        (k.beats() + 1) * self.transitions
     }
 
     fn forward(&self, k: Horizon, sheet: &mut [T], at: Places) -> Result<(), Refusal> {
-        if !at.fit(
-            self.inputs,
-            self.outputs,
-            k,
-            self.cells_needed(k),
-            sheet.len(),
-        ) {
-            return Err(Refusal::Short);
-        }
-        self.answer(Way::Forth, k, sheet, at);
-        Ok(())
+        self.answer(Way::Forth, k, sheet, at)
     }
 
     fn backward(&self, k: Horizon, sheet: &mut [T], at: Places) -> Result<(), Refusal> {
-        if !at.fit(
-            self.inputs,
-            self.outputs,
-            k,
-            self.cells_needed(k),
-            sheet.len(),
-        ) {
-            return Err(Refusal::Short);
-        }
-        self.answer(Way::Back, k, sheet, at);
-        Ok(())
+        self.answer(Way::Back, k, sheet, at)
     }
 }
 
+// Two calls of a line each, as each carries a theorem of its own.
 impl<T: Kind> Net<'_, T> {
     // Writes the output block that the input block drives. The net's response is the join of
     // the weights of its routes; where every circuit passes, the strikes are what leaves by

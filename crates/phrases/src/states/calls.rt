@@ -1,6 +1,6 @@
 ghost use Rattle.std.specs.Prelude.{◌≡◌, ◌<◌, false, List, [], replicate};
 ghost use Rattle.phrases.specs.Orders.{idle, ordered};
-ghost use Rattle.phrases.specs.Promises.{LayCells, StrikesCells, DueCells, OrderAnswer, FireCells, MissCells, Law, OrderLaw};
+ghost use Rattle.phrases.specs.Promises.{Stays, LayCells, StrikesCells, DueCells, OrderAnswer, FireCells, MissCells, Law, OrderLaw};
 ghost use Rattle.runs.specs.History.{written, playing, ended};
 ghost use Rattle.phrases.specs.Steps.{Left, lay_act, due_act, strikes_act, fire_act, miss_act, start_act, end_act};
 
@@ -84,10 +84,11 @@ impl<P: Plant> Playing<P> {
     pub fn order(&mut self, sheet: &[P::Value], input: usize) -> Result<Order, Refusal>
         ensures answer { OrderAnswer P.Value.Kind.ops P.Plant.meaning P.Plant.need self.old.phrase input sheet.now result }
         ensures lanes { self.new.phrase.lanes.table ≡ ordered self.old.phrase.lanes.table result }
-        ensures same { (self.new.phrase.plant ≡ self.old.phrase.plant) × (self.new.phrase.horizon ≡ self.old.phrase.horizon) }
+        ensures same { Stays self.old.phrase self.new.phrase }
         ensures law { OrderLaw P.Value.Kind.ops P.Plant.meaning P.Plant.need playing self.old.phrase self.new.phrase input sheet.now result }
     {
-        self.phrase.order(sheet, input)
+        let (order, _) = self.phrase.order(sheet, input)?;
+        Ok(order)
     }
 
     // Gives an order back with a value at most the ordered cell, which takes it. Refused with
@@ -99,7 +100,7 @@ impl<P: Plant> Playing<P> {
         value: P::Value,
     ) -> Result<(), Returned>
         ensures cells { FireCells P.Value.Kind.ops P.Plant.meaning P.Plant.need self.old.phrase self.new.phrase order value sheet.old sheet.new result }
-        ensures same { (self.new.phrase.plant ≡ self.old.phrase.plant) × (self.new.phrase.horizon ≡ self.old.phrase.horizon) }
+        ensures same { Stays self.old.phrase self.new.phrase }
         ensures law { Law P.Value.Kind.ops P.Plant.meaning P.Plant.need playing playing self.old.phrase self.new.phrase (fire_act order value result) sheet.old sheet.new }
     {
         self.phrase.fire(sheet, order, value)
@@ -109,7 +110,7 @@ impl<P: Plant> Playing<P> {
     // is handed back.
     pub fn miss(&mut self, sheet: &mut [P::Value], order: Order) -> Result<(), Returned>
         ensures cells { MissCells P.Value.Kind.ops P.Plant.meaning P.Plant.need self.old.phrase self.new.phrase order sheet.old sheet.new result }
-        ensures same { (self.new.phrase.plant ≡ self.old.phrase.plant) × (self.new.phrase.horizon ≡ self.old.phrase.horizon) }
+        ensures same { Stays self.old.phrase self.new.phrase }
         ensures law { Law P.Value.Kind.ops P.Plant.meaning P.Plant.need playing playing self.old.phrase self.new.phrase (miss_act order result) sheet.old sheet.new }
     {
         self.phrase.miss(sheet, order)
@@ -137,7 +138,7 @@ impl<P: Plant> Ended<P> {
     // Gives an order back unfired, as before the end.
     pub fn miss(&mut self, sheet: &mut [P::Value], order: Order) -> Result<(), Returned>
         ensures cells { MissCells P.Value.Kind.ops P.Plant.meaning P.Plant.need self.old.phrase self.new.phrase order sheet.old sheet.new result }
-        ensures same { (self.new.phrase.plant ≡ self.old.phrase.plant) × (self.new.phrase.horizon ≡ self.old.phrase.horizon) }
+        ensures same { Stays self.old.phrase self.new.phrase }
         ensures law { Law P.Value.Kind.ops P.Plant.meaning P.Plant.need ended ended self.old.phrase self.new.phrase (miss_act order result) sheet.old sheet.new }
     {
         self.phrase.miss(sheet, order)

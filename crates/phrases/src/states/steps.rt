@@ -1,108 +1,89 @@
-ghost use Rattle.std.specs.Prelude.{◌≡◌, ◌<◌, Decides};
-ghost use Rattle.kinds.specs.Kind.{AtMost};
-ghost use Rattle.phrases.specs.Orders.{ordered, is_out};
-ghost use Rattle.phrases.specs.Cells.{plan, spare, mixed, Holds};
-ghost use Rattle.phrases.specs.Promises.{fixed_in, Roomy, Climbs, Adopts, LayCells, StrikesCells, DueCells, OrderAnswer, FireCells, MissCells};
+ghost use Rattle.std.specs.Prelude.{◌≡◌, Decides};
+ghost use Rattle.phrases.specs.Orders.{is_out};
+ghost use Rattle.phrases.specs.Cells.{plan, spare, Holds};
+ghost use Rattle.phrases.specs.Promises.{Stays, fixed_in, BlocksAt, Adopts, LayCells, StrikesCells, ScoreAnswer, DueCells, NextAnswer, FoundAnswer, AimAnswer, FireCells, MissCells};
 
-use crate::cells::{beat_of, put_cell, read, wire_cells, wire_of};
+use crate::cells::all_at_most;
 use crate::lanes::{Lane, Lanes, Order, Returned};
 use crate::states::Phrase;
+use crate::states::blocks::Blocks;
 use kinds::{Kind, Refusal};
 use plants::{Horizon, Places, Plant, fill};
 
 // What each call does, at whatever stage.
 impl<P: Plant> Phrase<P> {
-    // Writes the ceiling of the score into the spare block.
-    fn climb(&self, sheet: &mut [P::Value])
-        requires { Roomy P.Value.Kind.ops P.Plant.meaning P.Plant.need self.now sheet.old }
-        ensures { Climbs P.Value.Kind.ops P.Plant.meaning P.Plant.need self.now sheet.old sheet.new }
-    {
-        let at = Places {
-            input: self.spare_start(),
-            output: 0,
-            working: self.working_start(),
-        };
-        let _ = self.plant.backward(self.horizon, sheet, at);
-    }
-
-    // Whether a plan cell is open, or at most its cell in the spare block.
-    fn holds_at(&self, sheet: &[P::Value], wire: usize, beat: usize) -> bool
-        requires room { Roomy P.Value.Kind.ops P.Plant.meaning P.Plant.need self.now sheet.now }
-        requires inside { (wire < (P.Plant.meaning self.now.plant).inputs) × (beat < self.now.horizon.beats) }
-        ensures { Decides result (beat < fixed_in self.now wire → AtMost P.Value.Kind.ops (plan P.Value.Kind.ops (P.Plant.meaning self.now.plant) self.now.horizon.beats sheet.now wire beat) (spare P.Value.Kind.ops (P.Plant.meaning self.now.plant) self.now.horizon.beats sheet.now wire beat)) }
-    {
-        if beat >= self.lanes.table[wire].fixed {
-            return true;
-        }
-        self.plan_cell(sheet, wire, beat)
-            .at_most(self.spare_cell(sheet, wire, beat))
-    }
-
     // Whether every fixed plan cell is at most its cell in the spare block.
-    fn holds(&self, sheet: &[P::Value]) -> bool
-        requires { Roomy P.Value.Kind.ops P.Plant.meaning P.Plant.need self.now sheet.now }
+    fn holds(&self, sheet: &[P::Value], at: Blocks) -> bool
+        requires { BlocksAt P.Value.Kind.ops P.Plant.meaning P.Plant.need self.now at sheet.now }
         ensures { Decides result (Holds P.Value.Kind.ops (P.Plant.meaning self.now.plant) (fixed_in self.now) (plan P.Value.Kind.ops (P.Plant.meaning self.now.plant) self.now.horizon.beats sheet.now) (spare P.Value.Kind.ops (P.Plant.meaning self.now.plant) self.now.horizon.beats sheet.now)) }
     {
-        for n in 0..wire_cells(self.plant.inputs(), self.horizon) {
-            if !self.holds_at(sheet, wire_of(n, self.horizon), beat_of(n, self.horizon)) {
+        let inputs = self.plant.inputs();
+        for (wire, lane) in self.lanes.table[..inputs].iter().enumerate() {
+            let plan = at.plan + self.cells(wire);
+            let spare = at.spare + self.cells(wire);
+            if !all_at_most(
+                &sheet[plan..plan + lane.fixed],
+                &sheet[spare..spare + lane.fixed],
+            ) {
                 return false;
             }
         }
         true
     }
 
-    // What a plan cell is to hold: a fixed one as it is, an open one what stands in the spare block.
-    fn mixed_at(&self, sheet: &[P::Value], wire: usize, beat: usize) -> P::Value
-        requires room { Roomy P.Value.Kind.ops P.Plant.meaning P.Plant.need self.now sheet.now }
-        requires inside { (wire < (P.Plant.meaning self.now.plant).inputs) × (beat < self.now.horizon.beats) }
-        ensures { result ≡ mixed (fixed_in self.now) (plan P.Value.Kind.ops (P.Plant.meaning self.now.plant) self.now.horizon.beats sheet.now) (spare P.Value.Kind.ops (P.Plant.meaning self.now.plant) self.now.horizon.beats sheet.now) wire beat }
-    {
-        if beat < self.lanes.table[wire].fixed {
-            self.plan_cell(sheet, wire, beat)
-        } else {
-            self.spare_cell(sheet, wire, beat)
-        }
-    }
-
     // Copies the open cells of the plan from the spare block.
-    fn adopt(&self, sheet: &mut [P::Value])
-        requires { Roomy P.Value.Kind.ops P.Plant.meaning P.Plant.need self.now sheet.old }
+    fn adopt(&self, sheet: &mut [P::Value], at: Blocks)
+        requires { BlocksAt P.Value.Kind.ops P.Plant.meaning P.Plant.need self.now at sheet.old }
         ensures { Adopts P.Value.Kind.ops P.Plant.meaning P.Plant.need self.now sheet.old sheet.new }
     {
-        let start = self.plan_start();
-        for n in 0..wire_cells(self.plant.inputs(), self.horizon) {
-            let v = self.mixed_at(sheet, wire_of(n, self.horizon), beat_of(n, self.horizon));
-            put_cell(sheet, start + n, v);
+        let inputs = self.plant.inputs();
+        for (wire, lane) in self.lanes.table[..inputs].iter().enumerate() {
+            let open = self.cells(wire) + lane.fixed;
+            let end = self.cells(wire) + self.horizon.beats();
+            sheet.copy_within(at.spare + open..at.spare + end, at.plan + open);
         }
     }
 
     pub(crate) fn lay(&self, sheet: &mut [P::Value]) -> Result<(), Refusal>
         ensures { LayCells P.Value.Kind.ops P.Plant.meaning P.Plant.need self.now sheet.old sheet.new result }
     {
-        if !self.fits(sheet) {
-            return Err(Refusal::Short);
-        }
-        let start = self.strikes_start();
-        fill(sheet, 0, start, P::Value::top());
-        fill(sheet, start, self.plan_start(), P::Value::bottom());
+        let at = self.blocks(sheet)?;
+        fill(sheet, 0, at.strikes, P::Value::top());
+        fill(sheet, at.strikes, at.plan, P::Value::bottom());
         Ok(())
     }
 
     pub(crate) fn strikes(&self, sheet: &mut [P::Value]) -> Result<(), Refusal>
         ensures { StrikesCells P.Value.Kind.ops P.Plant.meaning P.Plant.need self.now sheet.old sheet.new result }
     {
-        if !self.fits(sheet) {
-            return Err(Refusal::Short);
-        }
-        let at = Places {
-            input: self.plan_start(),
-            output: self.strikes_start(),
-            working: self.spare_start(),
+        let at = self.blocks(sheet)?;
+        // The blocks lie apart in the sheet, so the plant takes the call.
+        let places = Places {
+            input: at.plan,
+            output: at.strikes,
+            working: at.spare,
         };
-        let _ = self.plant.forward(self.horizon, sheet, at);
+        let _ = self.plant.forward(self.horizon, sheet, places);
         Ok(())
     }
 
+    // A cell of the score, and where the blocks begin. Refused with 8, 7.
+    fn score_cell(
+        &self,
+        sheet: &[P::Value],
+        output: usize,
+        beat: usize,
+    ) -> Result<(Blocks, usize), Refusal>
+        ensures { ScoreAnswer P.Value.Kind.ops P.Plant.meaning P.Plant.need self.now output beat sheet.now result }
+    {
+        let at = self.blocks(sheet)?;
+        if output >= self.plant.outputs() || beat >= self.horizon.beats() {
+            return Err(Refusal::Missing);
+        }
+        Ok((at, self.cells(output) + beat))
+    }
+
+    // The ceiling of the changed score goes to the spare block: the plant takes that call too.
     pub(crate) fn due(
         &self,
         sheet: &mut [P::Value],
@@ -112,32 +93,28 @@ impl<P: Plant> Phrase<P> {
     ) -> Result<(), Refusal>
         ensures { DueCells P.Value.Kind.ops P.Plant.meaning P.Plant.need self.now output beat value sheet.old sheet.new result }
     {
-        if !self.fits(sheet) {
-            return Err(Refusal::Short);
-        }
-        if output >= self.plant.outputs() || beat >= self.horizon.beats() {
-            return Err(Refusal::Missing);
-        }
-        let at = self.score_place(output, beat);
-        let old = read(sheet, at);
-        put_cell(sheet, at, value);
-        self.climb(sheet);
-        if !self.holds(sheet) {
-            put_cell(sheet, at, old);
+        let (at, cell) = self.score_cell(sheet, output, beat)?;
+        let old = sheet[cell];
+        sheet[cell] = value;
+        let places = Places {
+            input: at.spare,
+            output: 0,
+            working: at.working,
+        };
+        let _ = self.plant.backward(self.horizon, sheet, places);
+        if !self.holds(sheet, at) {
+            sheet[cell] = old;
             return Err(Refusal::NoPlan);
         }
-        self.adopt(sheet);
+        self.adopt(sheet, at);
         Ok(())
     }
 
-    pub(crate) fn order(&mut self, sheet: &[P::Value], input: usize) -> Result<Order, Refusal>
-        ensures answer { OrderAnswer P.Value.Kind.ops P.Plant.meaning P.Plant.need self.old input sheet.now result }
-        ensures lanes { self.new.lanes.table ≡ ordered self.old.lanes.table result }
-        ensures same { (self.new.plant ≡ self.old.plant) × (self.new.horizon ≡ self.old.horizon) }
+    // The cell of an input's lowest open beat. Refused with 8, 7, 21, 22.
+    fn next_cell(&self, sheet: &[P::Value], input: usize) -> Result<usize, Refusal>
+        ensures { NextAnswer P.Value.Kind.ops P.Plant.meaning P.Plant.need self.now input sheet.now result }
     {
-        if !self.fits(sheet) {
-            return Err(Refusal::Short);
-        }
+        let at = self.blocks(sheet)?;
         if input >= self.plant.inputs() {
             return Err(Refusal::Missing);
         }
@@ -148,7 +125,20 @@ impl<P: Plant> Phrase<P> {
         if lane.fixed >= self.horizon.beats() {
             return Err(Refusal::AllFixed);
         }
-        Ok(self.lanes.give(input))
+        Ok(at.plan + (self.cells(input) + lane.fixed))
+    }
+
+    // An order, with the plan value that it found.
+    pub(crate) fn order(
+        &mut self,
+        sheet: &[P::Value],
+        input: usize,
+    ) -> Result<(Order, P::Value), Refusal>
+        ensures answer { FoundAnswer P.Value.Kind.ops P.Plant.meaning P.Plant.need self.old self.new input sheet.now result }
+        ensures same { Stays self.old self.new }
+    {
+        let cell = self.next_cell(sheet, input)?;
+        Ok((self.lanes.give(input), sheet[cell]))
     }
 
     // Whether this order is out here.
@@ -162,6 +152,21 @@ impl<P: Plant> Phrase<P> {
         lane.out && lane.fixed == order.beat.saturating_add(1)
     }
 
+    // The cell that a firing writes. Refused with 8, 24, 23.
+    fn aim(&self, sheet: &[P::Value], order: &Order, value: P::Value) -> Result<usize, Refusal>
+        ensures { AimAnswer P.Value.Kind.ops P.Plant.meaning P.Plant.need self.now order.now value sheet.now result }
+    {
+        let at = self.blocks(sheet)?;
+        if !self.is_out(order) {
+            return Err(Refusal::NoOrder);
+        }
+        let cell = at.plan + (self.cells(order.input) + order.beat);
+        if !value.at_most(sheet[cell]) {
+            return Err(Refusal::TooHigh);
+        }
+        Ok(cell)
+    }
+
     pub(crate) fn fire(
         &mut self,
         sheet: &mut [P::Value],
@@ -169,36 +174,22 @@ impl<P: Plant> Phrase<P> {
         value: P::Value,
     ) -> Result<(), Returned>
         ensures cells { FireCells P.Value.Kind.ops P.Plant.meaning P.Plant.need self.old self.new order value sheet.old sheet.new result }
-        ensures same { (self.new.plant ≡ self.old.plant) × (self.new.horizon ≡ self.old.horizon) }
+        ensures same { Stays self.old self.new }
     {
-        if !self.fits(sheet) {
-            return Err(Returned {
-                order,
-                refusal: Refusal::Short,
-            });
+        match self.aim(sheet, &order, value) {
+            Ok(cell) => {
+                sheet[cell] = value;
+                self.lanes.take_back(order);
+                Ok(())
+            }
+            Err(refusal) => Err(Returned { order, refusal }),
         }
-        if !self.is_out(&order) {
-            return Err(Returned {
-                order,
-                refusal: Refusal::NoOrder,
-            });
-        }
-        let at = self.plan_place(order.input, order.beat);
-        if !value.at_most(read(sheet, at)) {
-            return Err(Returned {
-                order,
-                refusal: Refusal::TooHigh,
-            });
-        }
-        put_cell(sheet, at, value);
-        self.lanes.take_back(order);
-        Ok(())
     }
 
     // A miss is a firing of bottom, which is never too high.
     pub(crate) fn miss(&mut self, sheet: &mut [P::Value], order: Order) -> Result<(), Returned>
         ensures cells { MissCells P.Value.Kind.ops P.Plant.meaning P.Plant.need self.old self.new order sheet.old sheet.new result }
-        ensures same { (self.new.plant ≡ self.old.plant) × (self.new.horizon ≡ self.old.horizon) }
+        ensures same { Stays self.old self.new }
     {
         self.fire(sheet, order, P::Value::bottom())
     }

@@ -1,10 +1,5 @@
-use Rattle.std.proofs.Common.{[], ◌∷◌, ◌++◌, sym, ap, ◌∙◌}
-use Rattle.loading.proofs.Repeats.{no_copies, one_more}
+use Rattle.loading.proofs.Readings.{resized}
 use Rattle.loading.proofs.copies.copies_of.Goals as goal
 
-pub loop-made-init : goal.loop-made-init
-loop-made-init g c = c.new-all.ensures.items ∙ sym (no_copies c.args.value)
-
-pub loop-made-preserved : goal.loop-made-preserved
-loop-made-preserved g c =
-    c.in_ok-push.ensures.items ∙ ap (λ xs. xs ++ (c.args.value ∷ [])) c.loop-made.invariant ∙ one_more c.loop-made._made c.args.value
+pub returns : goal.returns
+returns g c = resized c.args.count _ c.args.value _ _ c.new-all.ensures.items c.new-all.ensures.len c.in_ok-resize.ensures.items

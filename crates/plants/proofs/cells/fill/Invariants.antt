@@ -1,6 +1,5 @@
-use Rattle.std.proofs.Common.{◌-◌}
-use Rattle.plants.specs.Calls.{Flooded}
+use Rattle.std.proofs.Common.{◌≡◌, ℕ, ◌<◌, get_or}
 use Rattle.plants.proofs.cells.fill.Given as goal
 
-abbrev pub invariant-loop-at : goal.invariant-loop-at
-invariant-loop-at g l = Flooded g.T.Kind.ops l.start (l.at - l.start) l.value l.initial.sheet l.sheet
+abbrev pub invariant-loop-cell : goal.invariant-loop-cell
+invariant-loop-cell g l = (k : ℕ) (d : _) → k < l.cell-index → get_or l.cell-items k d ≡ l.value

@@ -1,9 +1,16 @@
-use Rattle.std.proofs.Common.{ℕ, ◌/◌, ◌%◌, vec_items, ap}
+use Rattle.std.proofs.Common.{◌≡◌, ℕ, ◌+◌, ◌/◌, ◌%◌, get_or, string_bytes, sym, ap, ◌∙◌, zero-add}
+use Rattle.std.proofs.lemmas.List.{get_or_read}
 use Rattle.printing.proofs.Writing.{cell_more}
 use Rattle.printing.proofs.rows.write_block.Goals as goal
 
 pub loop-n-preserved : goal.loop-n-preserved
 loop-n-preserved g c =
-    cell_more g.T.Kind.ops g.T.CardKind.text c.args.block c.args.k.beats c.args.sheet.now c.args.start c.loop-n.n _ _ c.read.result
-    (vec_items c.args.out.now) (vec_items c.loop-n.out) (vec_items c.write_line.new.out)
-    (ap (λ (b : ℕ). c.loop-n.n / b) c.beats.ensures.0) (ap (λ (b : ℕ). c.loop-n.n % b) c.beats-in-loop-n.ensures.0) c.read.ensures c.in_ok-write_line.ensures c.loop-n.invariant
+    let o = g.T.Kind.ops in
+    let cells = c.args.cells.now in
+    let n = c.loop-n.n in
+    let value = c.index-cells-n.result in
+    let there : value ≡ get_or cells (0 + n) o.bottom =
+    get_or_read cells n value c.loop-n-test.true c.index-cells-n.is o.bottom ∙ ap (λ (i : ℕ). get_or cells i o.bottom) (sym (zero-add n)) in
+    cell_more o g.T.CardKind.text c.args.block c.args.k.beats cells 0 n _ _ value
+    (string_bytes c.args.out.now) (string_bytes c.loop-n.out) (string_bytes c.writeln.new.self)
+    (ap (λ (b : ℕ). n / b) c.beats-beats.ensures.0) (ap (λ (b : ℕ). n % b) c.beats-beats.ensures.0) there c.in_ok-writeln.ensures.bytes c.loop-n.invariant

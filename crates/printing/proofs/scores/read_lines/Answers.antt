@@ -2,20 +2,23 @@ use Rattle.std.proofs.Common.{None, Ok, Err, vec_items, sym, refl, ap, ◌∙◌
 use Rattle.printing.proofs.Reading.{line_more, lines_end}
 use Rattle.printing.proofs.scores.read_lines.Goals as goal
 
-pub loop-next-preserved : goal.loop-next-preserved
-loop-next-preserved g c = (
-  c.next_line.ensures.same ∙ c.loop-next.invariant.0,
-  line_more g.T.CardKind.reading c.args.score.text.now c.loop-next.score.text.now c.args.score.at c.loop-next.score.at c.next_line.new.self.at
-      (vec_items c.loop-next.lines) (vec_items c.push.new.self) c.in-Some.line c.next_line.result c.loop-next.invariant.0
-      c.next_line.ensures.result (c.in-Ok.is ∙ ap Ok c.in-Some.is) c.next_line.ensures.position c.in_ok-push-in-Some.ensures.items c.loop-next.invariant.1,
+pub loop-line-preserved : goal.loop-line-preserved
+loop-line-preserved g c = (
+  c.next_line.ensures.same ∙ c.loop-line.invariant.0,
+  line_more g.T.CardKind.reading c.args.score.lines.text.now c.loop-line.score.lines.text.now c.args.score.lines.at c.loop-line.score.lines.at
+      c.next_line.new.self.lines.at (vec_items c.loop-line.lines) (vec_items c.push.new.self) c.in-Ok-Some.line c.next_line.result c.loop-line.invariant.0
+      c.next_line.ensures.result (c.in-Ok-Some.is ∙ ap Ok c.in-Ok-Some.field-0-is) c.next_line.ensures.position
+      c.in_ok-push-in-Ok-Some.ensures.items c.loop-line.invariant.1,
 )
 
-pub returns-in-None : goal.returns-in-None
-returns-in-None g c =
-    lines_end g.T.CardKind.reading c.args.score.text.now c.loop-next.score.text.now c.args.score.at c.loop-next.score.at (vec_items c.loop-next.lines)
-    (Ok None) (Ok tt) c.loop-next.invariant.0 (sym (ap Ok c.in-None.is) ∙ c.in-Ok.ensures.result) refl c.loop-next.invariant.1
+pub returns-in-Ok-None : goal.returns-in-Ok-None
+returns-in-Ok-None g c =
+    lines_end g.T.CardKind.reading c.args.score.lines.text.now c.loop-line.score.lines.text.now c.args.score.lines.at c.loop-line.score.lines.at
+    (vec_items c.loop-line.lines) (Ok None) (Ok tt) c.loop-line.invariant.0
+    (sym (c.in-Ok-None.is ∙ ap Ok c.in-Ok-None.field-0-is) ∙ c.next_line.ensures.result) refl c.loop-line.invariant.1
 
 pub returns-in-Err : goal.returns-in-Err
 returns-in-Err g c =
-    lines_end g.T.CardKind.reading c.args.score.text.now c.loop-next.score.text.now c.args.score.at c.loop-next.score.at (vec_items c.loop-next.lines)
-    (Err c.in-Err.fault) (Err c.in-Err.fault) c.loop-next.invariant.0 c.in-Err.ensures.result refl c.loop-next.invariant.1
+    lines_end g.T.CardKind.reading c.args.score.lines.text.now c.loop-line.score.lines.text.now c.args.score.lines.at c.loop-line.score.lines.at
+    (vec_items c.loop-line.lines) (Err c.in-Err.fault) (Err c.in-Err.fault) c.loop-line.invariant.0
+    (sym c.in-Err.is ∙ c.next_line.ensures.result) refl c.loop-line.invariant.1

@@ -1,17 +1,6 @@
 use Rattle.std.proofs.Common.{refl, arith}
-use Rattle.phrases.proofs.Lawful.{fire_law}
+use Rattle.phrases.proofs.Kept.{fire_kept}
 use Rattle.phrases.proofs.states.Playing.fire.Goals as goal
 
-pub returns : goal.returns
-returns g c =
-    let ph = c.args.self.now.phrase in
-    let M = g.P.Plant.meaning ph.plant in
-    let K = ph.horizon.beats in
-    let n = g.P.Plant.need ph.plant K in
-    let many = (g.P.Plant.counted ph.plant).few_inputs in
-    let all = ph.sixteen in
-    record {
-      cells = c.fire.ensures.cells;
-      same = c.fire.ensures.same;
-      law = λ h old. fire_law g.met.P.Value.Kind.laws M K n _ h ph.lanes.table c.args.sheet.now (λ i hi. ph.within i (omega arith)) old c.args.order _ c.fire.new.sheet (omega arith) (omega arith) c.args.value refl _ c.fire.ensures.cells;
-    }
+pub returns-clause-law : goal.returns-clause-law
+returns-clause-law g c = fire_kept g.met.P.Value.Kind.laws g.P.Plant.meaning g.P.Plant.need g.P.Plant.counted c.args.self.now.phrase c.args.sheet.now c.fire.new.sheet (omega arith) _ c.fire.new.self c.args.order c.args.value refl _ c.fire.ensures.cells

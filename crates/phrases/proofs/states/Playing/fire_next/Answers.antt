@@ -1,177 +1,47 @@
-use Rattle.std.proofs.Common.{◌≡◌, ℕ, [], ◌∷◌, Ok, Err, sym, refl, ap, ◌∙◌, subst, ap₂}
-use Rattle.runs.specs.History.{playing}
-use Rattle.runs.specs.declared.acts.Answer.{Answer}
-use Rattle.runs.specs.declared.acts.Answer.TheVariants.{Done, Ordered, Refused}
-use Rattle.runs.specs.declared.acts.Call.TheVariants.{Order, Fire, Miss}
-use Rattle.phrases.specs.Orders.{lane_at}
-use Rattle.phrases.specs.Steps.{Left, room, told_back, fire_act, miss_act}
-use Rattle.phrases.proofs.Following.{for_input, still, answered}
+use Rattle.std.proofs.Common.{[], ◌∷◌, Ok, Err, refl}
+use Rattle.phrases.proofs.Following.{follows_then, order_then, fire_then, miss_then}
 use Rattle.phrases.proofs.states.Playing.fire_next.Goals as goal
 
-pub returns-in-Ok-fire : goal.returns-in-Ok-fire
-returns-in-Ok-fire g c =
-    let o = g.P.Value.Kind.ops in
-    let meaning = g.P.Plant.meaning in
-    let needs = g.P.Plant.need in
-    let ph = c.args.self.now.phrase in
-    let ph₁ = c.order.new.self.phrase in
-    let s = c.args.sheet.now in
-    let M = meaning ph.plant in
-    let K = ph.horizon.beats in
-    let i = c.args.input in
-    let b = c.beat-beat.result in
-    let order = c.in-Ok.order in
-    let ours : order.input ≡ i =
-    for_input (room M K (needs ph.plant K) s) M.inputs K i (lane_at ph.lanes.table i) order (sym c.order.ensures.answer ∙ c.in-Ok.is) in
-    let same = c.order.ensures.same in
-    let told = answered o meaning needs ph ph₁ i b c.plan_cell-found.result order s same.0 same.1 ours c.beat-beat.ensures c.plan_cell-found.ensures in
-    let n = needs ph.plant K in
-    let v = c.args.value in
-    let then = c.fire.ensures.same in
-    let fired : fire_act order v c.fire.result ≡ record { call = Fire i b v; answer = Done } =
-    ap₂ (λ (x y : ℕ). record { call = Fire x y v; answer = told_back c.fire.result }) ours (sym c.beat-beat.ensures) ∙ ap (λ r. record { call = Fire i b v; answer = told_back r }) c.in-Ok-fire.is in
-    let fired-ok : fire_act {X = Unit {0}} order v (Ok tt) ≡ record { call = Fire i b v; answer = Done } =
-    ap₂ (λ (x y : ℕ). record { call = Fire x y v; answer = Done }) ours (sym c.beat-beat.ensures) in
-    record {
-      calls = (refl, (refl, refl));
-      cells = (
-        Ok order,
-        (
-          ph₁,
-          (
-            record { call = Fire i b v; answer = Done } ∷ [],
-            (
-              same.0,
-              same.1,
-              c.in-Ok.ensures.answer,
-              c.in-Ok.ensures.lanes,
-              ap (λ (x : Answer g.row.P-Value.Denot). record { call = Order i; answer = x } ∷ record { call = Fire i b v; answer = Done } ∷ []) told,
-              (
-                Ok tt,
-                (
-                  c.fire.new.self.phrase,
-                  (
-                    c.fire.new.sheet,
-                    (
-                      [],
-                      (then.0, then.1, c.in-Ok-fire.ensures.cells, ap (λ x. x ∷ []) (sym fired-ok), (refl, refl, refl)),
-                    ),
-                  ),
-                ),
-              ),
-            ),
-          ),
-        ),
-      );
-      same = (then.0 ∙ same.0, then.1 ∙ same.1);
-      law = λ h old.
-          still o meaning needs ph ph₁ c.fire.new.self.phrase (fire_act order c.args.value c.fire.result) (record { call = Fire i b c.args.value; answer = Done }) s c.fire.new.sheet
-          same.0 same.1
-          fired
-          c.fire.ensures.law
-          (record { call = Order i; answer = Ordered b c.plan_cell-found.result } ∷ h)
-          (subst (λ (x : Answer g.row.P-Value.Denot). Left o M K n playing (record { call = Order i; answer = x } ∷ h) ph₁.lanes.table s) (sym told) (c.in-Ok.ensures.law h old));
-    }
+pub returns-in_default-clause-cells : goal.returns-in_default-clause-cells
+returns-in_default-clause-cells g c =
+    let t = rw c.in_default.is at c.take_order-ordered.ensures in
+    order_then g.P.Value.Kind.ops g.P.Plant.meaning g.P.Plant.need _ _ _ _ _ _ (Err t.0) _ _ _ t.1 (refl, refl, refl)
 
-pub returns-in-Err-fire : goal.returns-in-Err-fire
-returns-in-Err-fire g c =
-    let o = g.P.Value.Kind.ops in
-    let meaning = g.P.Plant.meaning in
-    let needs = g.P.Plant.need in
-    let ph = c.args.self.now.phrase in
-    let ph₁ = c.order.new.self.phrase in
-    let s = c.args.sheet.now in
-    let M = meaning ph.plant in
-    let K = ph.horizon.beats in
-    let i = c.args.input in
-    let b = c.beat-beat.result in
-    let order = c.in-Ok.order in
-    let ours : order.input ≡ i =
-    for_input (room M K (needs ph.plant K) s) M.inputs K i (lane_at ph.lanes.table i) order (sym c.order.ensures.answer ∙ c.in-Ok.is) in
-    let same = c.order.ensures.same in
-    let told = answered o meaning needs ph ph₁ i b c.plan_cell-found.result order s same.0 same.1 ours c.beat-beat.ensures c.plan_cell-found.ensures in
-    let n = needs ph.plant K in
-    let v = c.args.value in
-    let ph₂ = c.fire.new.self.phrase in
-    let s₂ = c.fire.new.sheet in
-    let back = c.in-Err-fire.back in
-    let back-ours : back.order ≡ order = c.in-Err-fire.ensures.cells.0 in
-    let then = c.fire.ensures.same in
-    let last = c.miss.ensures.same in
-    let missed : miss_act back.order c.miss.result ≡ record { call = Miss i b; answer = c.spend-answer.result } =
-    ap₂ (λ (x y : ℕ). record { call = Miss x y; answer = told_back c.miss.result }) (ap (λ z. z.input) back-ours ∙ ours) (ap (λ z. z.beat) back-ours ∙ sym c.beat-beat.ensures) ∙ ap (λ (a : Answer g.row.P-Value.Denot). record { call = Miss i b; answer = a }) (sym c.spend-answer.ensures) in
-    let fired : fire_act order v c.fire.result ≡ record { call = Fire i b v; answer = Refused back.refusal } =
-    ap₂ (λ (x y : ℕ). record { call = Fire x y v; answer = told_back c.fire.result }) ours (sym c.beat-beat.ensures) ∙ ap (λ r. record { call = Fire i b v; answer = told_back r }) c.in-Err-fire.is in
-    let fired-not : fire_act {X = Unit {0}} order v (Err back) ≡ record { call = Fire i b v; answer = Refused back.refusal } =
-    ap₂ (λ (x y : ℕ). record { call = Fire x y v; answer = Refused back.refusal }) ours (sym c.beat-beat.ensures) in
-    let tail = record { call = Miss i b; answer = c.spend-answer.result } ∷ [] in
-    record {
-      calls = (refl, (refl, refl));
-      cells = (
-        Ok order,
-        (
-          ph₁,
-          (
-            record { call = Fire i b v; answer = Refused back.refusal } ∷ tail,
-            (
-              same.0,
-              same.1,
-              c.in-Ok.ensures.answer,
-              c.in-Ok.ensures.lanes,
-              ap (λ (x : Answer g.row.P-Value.Denot). record { call = Order i; answer = x } ∷ record { call = Fire i b v; answer = Refused back.refusal } ∷ tail) told,
-              (
-                Err back,
-                (
-                  ph₂,
-                  (
-                    s₂,
-                    (
-                      tail,
-                      (
-                        then.0,
-                        then.1,
-                        c.in-Err-fire.ensures.cells,
-                        ap (λ x. x ∷ tail) (sym fired-not),
-                        (c.miss.result, (c.miss.ensures.cells, ap (λ x. x ∷ []) (sym missed))),
-                      ),
-                    ),
-                  ),
-                ),
-              ),
-            ),
-          ),
-        ),
-      );
-      same = (last.0 ∙ then.0 ∙ same.0, last.1 ∙ then.1 ∙ same.1);
-      law = λ h old.
-          still o meaning needs ph ph₂ c.miss.new.self.phrase (miss_act back.order c.miss.result) (record { call = Miss i b; answer = c.spend-answer.result }) s₂ c.miss.new.sheet
-          (then.0 ∙ same.0) (then.1 ∙ same.1)
-          missed
-          c.miss.ensures.law
-          (record { call = Fire i b v; answer = Refused back.refusal } ∷ record { call = Order i; answer = Ordered b c.plan_cell-found.result } ∷ h)
-          (still o meaning needs ph ph₁ ph₂ (fire_act order v c.fire.result) (record { call = Fire i b v; answer = Refused back.refusal }) s s₂
-          same.0 same.1
-          fired
-          c.fire.ensures.law
-          (record { call = Order i; answer = Ordered b c.plan_cell-found.result } ∷ h)
-          (subst (λ (x : Answer g.row.P-Value.Denot). Left o M K n playing (record { call = Order i; answer = x } ∷ h) ph₁.lanes.table s) (sym told) (c.in-Ok.ensures.law h old)));
-    }
+pub returns-in-None-clause-cells : goal.returns-in-None-clause-cells
+returns-in-None-clause-cells g c =
+    let t = rw c.in-Some.is at c.take_order-ordered.ensures in
+    let f = rw c.in-None.is at c.fire_order-fired.ensures in
+    order_then g.P.Value.Kind.ops g.P.Plant.meaning g.P.Plant.need _ _ _ _ _ _ (Ok c.in-Some.order) _ _ _ t
+    (fire_then g.P.Value.Kind.ops g.P.Plant.meaning g.P.Plant.need _ _ _ _ _ _ _ _ (Ok tt) _ _ f (refl, refl, refl))
 
-pub returns-in-Err : goal.returns-in-Err
-returns-in-Err g c =
-    let same = c.order.ensures.same in
-    record {
-      calls = (refl, refl);
-      cells = (
-        Err c.in-Err.why,
-        (
-          c.order.new.self.phrase,
-          (
-            [],
-            (same.0, same.1, c.in-Err.ensures.answer, c.in-Err.ensures.lanes, refl, (refl, refl, refl)),
-          ),
-        ),
-      );
-      same = same;
-      law = c.in-Err.ensures.law;
-    }
+pub returns-in-None-clause-law : goal.returns-in-None-clause-law
+returns-in-None-clause-law g c =
+    let t = rw c.in-Some.is at c.take_order-ordered.ensures in
+    let f = rw c.in-None.is at c.fire_order-fired.ensures in
+    let ph₁ = c.take_order-ordered.new.self.phrase in
+    let ph₂ = c.fire_order-fired.new.self.phrase in
+    let s₂ = c.fire_order-fired.new.sheet in
+    follows_then g.P.Value.Kind.ops g.P.Plant.meaning g.P.Plant.need c.args.self.now.phrase ph₁ ph₂ _ (c.fire_order-fired.result.0 ∷ []) c.args.sheet.now c.args.sheet.now s₂ t.plant t.horizon t.law
+    (follows_then g.P.Value.Kind.ops g.P.Plant.meaning g.P.Plant.need ph₁ ph₂ ph₂ _ [] c.args.sheet.now s₂ s₂ f.plant f.horizon f.law (λ h old. old))
+
+pub returns-in-Some-back-clause-cells : goal.returns-in-Some-back-clause-cells
+returns-in-Some-back-clause-cells g c =
+    let t = rw c.in-Some.is at c.take_order-ordered.ensures in
+    let f = rw c.in-Some-back.is at c.fire_order-fired.ensures in
+    order_then g.P.Value.Kind.ops g.P.Plant.meaning g.P.Plant.need _ _ _ _ _ _ (Ok c.in-Some.order) _ _ _ t
+    (fire_then g.P.Value.Kind.ops g.P.Plant.meaning g.P.Plant.need _ _ _ _ _ _ _ _ (Err f.0) _ _ f.1.1
+    (miss_then g.P.Value.Kind.ops g.P.Plant.meaning g.P.Plant.need _ _ _ _ _ _ (rw f.1.0 at c.miss_order.ensures)))
+
+pub returns-in-Some-back-clause-law : goal.returns-in-Some-back-clause-law
+returns-in-Some-back-clause-law g c =
+    let t = rw c.in-Some.is at c.take_order-ordered.ensures in
+    let f = rw c.in-Some-back.is at c.fire_order-fired.ensures in
+    let m = c.miss_order.ensures in
+    let ph₁ = c.take_order-ordered.new.self.phrase in
+    let ph₂ = c.fire_order-fired.new.self.phrase in
+    let ph₃ = c.miss_order.new.self.phrase in
+    let s₂ = c.fire_order-fired.new.sheet in
+    let s₃ = c.miss_order.new.sheet in
+    follows_then g.P.Value.Kind.ops g.P.Plant.meaning g.P.Plant.need c.args.self.now.phrase ph₁ ph₃ _ (c.fire_order-fired.result.0 ∷ c.miss_order.result ∷ []) c.args.sheet.now c.args.sheet.now s₃ t.plant t.horizon t.law
+    (follows_then g.P.Value.Kind.ops g.P.Plant.meaning g.P.Plant.need ph₁ ph₂ ph₃ _ (c.miss_order.result ∷ []) c.args.sheet.now s₂ s₃ f.1.1.plant f.1.1.horizon f.1.1.law
+    (follows_then g.P.Value.Kind.ops g.P.Plant.meaning g.P.Plant.need ph₂ ph₃ ph₃ _ [] s₂ s₃ s₃ m.plant m.horizon m.law (λ h old. old)))

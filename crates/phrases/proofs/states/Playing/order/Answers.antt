@@ -1,18 +1,7 @@
-use Rattle.std.proofs.Common.{refl, arith}
-use Rattle.phrases.proofs.Lawful.{order_law}
+use Rattle.std.proofs.Common.{refl}
+use Rattle.phrases.proofs.Kept.{order_kept}
 use Rattle.phrases.proofs.states.Playing.order.Goals as goal
 
-pub returns : goal.returns
-returns g c =
-    let ph = c.args.self.now.phrase in
-    let M = g.P.Plant.meaning ph.plant in
-    let K = ph.horizon.beats in
-    let n = g.P.Plant.need ph.plant K in
-    let many = (g.P.Plant.counted ph.plant).few_inputs in
-    let all = ph.sixteen in
-    record {
-      answer = c.order.ensures.answer;
-      lanes = c.order.ensures.lanes;
-      same = c.order.ensures.same;
-      law = λ h old. order_law g.met.P.Value.Kind.laws M K n _ h ph.lanes.table c.args.sheet.now (λ i hi. ph.within i (omega arith)) old c.args.input refl (omega arith) _ _ c.order.ensures.answer c.order.ensures.lanes;
-    }
+pub returns-clause-law : goal.returns-clause-law
+returns-clause-law g c = let found = c.in_ok-order.ensures.answer in
+    order_kept g.met.P.Value.Kind.laws g.P.Plant.meaning g.P.Plant.need g.P.Plant.counted c.args.self.now.phrase c.args.sheet.now _ c.order.new.self c.args.input refl _ found.0 found.2

@@ -1,4 +1,0 @@
-use Rattle.texts.proofs.fields.+field.Given as goal
-
-abbrev pub decreases-field : goal.decreases-field
-decreases-field l = l.number
