@@ -1,7 +1,7 @@
 -- A net that is triggered once, in a sheet whose blocks stand one after the other.
-use Rattle.std.proofs.Common.{◌≡◌, ℕ, zero, suc, ◌+◌, ◌*◌, ◌/◌, ◌%◌, ◌<◌, ◌≤◌, List, ◌++◌, take, drop, length, get_or, set, Ok, Err, Result, sym, refl, ap, ◌∙◌, subst, ap₂, inl, mod-lt, div-lt_iff_lt-mul, div-add-mod', zero-add, arith, below_more, length-drop}
+use Rattle.std.proofs.Common.{◌≡◌, ℕ, zero, suc, ◌+◌, ◌*◌, ◌/◌, ◌%◌, ◌<◌, ◌≤◌, List, ◌++◌, take, drop, length, get_or, Ok, Err, Result, sym, refl, ap, ◌∙◌, subst, ap₂, inl, mod-lt, div-lt_iff_lt-mul, div-add-mod', zero-add, arith, length-drop}
 use Rattle.std.proofs.lemmas.Nat.{mul-add-lt, mod-mul-add}
-use Rattle.std.proofs.lemmas.List.{get_or-set_same, get_or-set_other, get_or-take, get_or-drop, get_or_append_left, length-take-le}
+use Rattle.std.proofs.lemmas.List.{get_or-take, get_or-drop, get_or_append_left, length-take-le}
 use Rattle.kinds.specs.Kind.{Ops}
 use Rattle.kinds.specs.declared.refusals.Refusal.{Refusal}
 use Rattle.plants.specs.Fits.{Fits}
@@ -10,12 +10,6 @@ use Rattle.plants.specs.Calls.{Filled, Outcome, Forward}
 use Rattle.plants.proofs.Blocks.{forward_same}
 use Rattle.card.specs.Cells.{cell_at, cell_row, cell_rows}
 use Rattle.card.specs.Responses.{at_once, Struck, response_cell, told_responses}
-
-pub struck_more : {T : Type 0} (o : Ops T) (K n : ℕ) (v : T) (s s' : List T) → n < length s → v ≡ at_once o (n / K) (n % K) → s' ≡ set s n v
-    → Struck o K n s → Struck o K (n + 1) s'
-struck_more {T} o K n v s s' within is e p =
-    subst (λ (t : List T). Struck o K (n + 1) t) (sym e)
-    (below_more _ _ (λ a h. get_or-set_other s n a v o.bottom (λ q. omega arith) ∙ p a h) (get_or-set_same s n v o.bottom within ∙ is))
 
 -- a call that has its space is not refused
 pub accepted : {T : Type 0} (r : Result (Unit {0}) Refusal) (F D : Type 0) (s t : List T) → Outcome r F D s t → F → D

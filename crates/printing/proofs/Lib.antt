@@ -1,9 +1,7 @@
-pub mod Exits
 pub mod Rooms
 pub mod Reading
 pub mod Following
 pub mod Writing
 pub mod Blocks
-pub mod Beginning
 pub mod Performing
-pub mod Carding
+pub mod Beginning

@@ -1,29 +1,16 @@
 -- Rows written one after another.
-use Rattle.std.proofs.Common.{◌≡◌, ℕ, ◌+◌, ◌/◌, ◌%◌, ◌<◌, ◌≤◌, List, ◌∷◌, ◌++◌, length, get_or, drop, sym, ap, ◌∙◌, ap₂, append_assoc, append-nil, div-add-mod', add-one}
-use Rattle.std.proofs.lemmas.List.{at_drop_more, at_drop_all}
+use Rattle.std.proofs.Common.{◌≡◌, ℕ, ◌+◌, ◌/◌, ◌%◌, List, ◌++◌, get_or, drop, sym, ap, ◌∙◌, ap₂, append_assoc, div-add-mod', add-one}
 use Rattle.kinds.specs.Kind.{Ops}
 use Rattle.plants.specs.Meaning.{block}
 use Rattle.runs.specs.declared.acts.Act.{Act}
 use Rattle.listing.specs.declared.lines.Block.{Block}
 use Rattle.listing.specs.CardLines.{cell_line}
-use Rattle.printing.specs.ActLines.{act_line}
-use Rattle.printing.specs.Rows.{row, row_if, act_rows, cell_rows}
+use Rattle.printing.specs.Rows.{row, act_rows, cell_rows}
 
 module _ {T : Type 0} (text : T → List ℕ) (bottom : T) (acts : List (Act T)) (was : List ℕ) where
   -- what is written and the rows that are left make the whole
   abbrev pub WrittenTo : List ℕ → ℕ → Type 0
   WrittenTo now i = now ++ act_rows text bottom (drop i acts) ≡ was ++ act_rows text bottom acts
-
-  pub act_more : (i : ℕ) (act : Act T) (now now' : List ℕ) → i < length acts → act ≡ get_or acts i act → now' ≡ now ++ row_if text (act_line bottom act)
-      → WrittenTo now i → WrittenTo now' (i + 1)
-  act_more i act now now' lt is grown before =
-      ap (λ z. z ++ act_rows text bottom (drop (i + 1) acts)) grown
-      ∙ append_assoc now (row_if text (act_line bottom act)) (act_rows text bottom (drop (i + 1) acts))
-      ∙ ap (λ z. now ++ z) (sym (at_drop_more (act_rows text bottom) acts i act lt ∙ ap (λ a. act_rows text bottom (a ∷ drop (i + 1) acts)) (sym is)))
-      ∙ before
-
-  pub acts_all : (i : ℕ) (now : List ℕ) → length acts ≤ i → WrittenTo now i → now ≡ was ++ act_rows text bottom acts
-  acts_all i now end before = sym (append-nil now) ∙ ap (λ z. now ++ z) (sym (at_drop_all (act_rows text bottom) acts i end)) ∙ before
 
 pub cell_more : {T : Type 0} (o : Ops T) (text : T → List ℕ) (b : Block) (K : ℕ) (sheet : List T) (start n w k : ℕ) (value : T) (was now now' : List ℕ)
     → w ≡ n / K → k ≡ n % K → value ≡ get_or sheet (start + n) o.bottom

@@ -1,19 +1,9 @@
 use Rattle.std.proofs.Common.{◌++◌, vec_items, string_bytes, ◌∙◌, subst, ap, ap₂, arith}
-use Rattle.std.proofs.lemmas.Result.{err_from_is_err_and}
 use Rattle.nets.specs.Nets.{meant, net_need}
 use Rattle.printing.specs.Plays.{Plays}
 use Rattle.printing.specs.Rows.{act_rows}
-use Rattle.printing.proofs.Exits.{unmade}
 use Rattle.printing.proofs.Performing.{performs}
 use Rattle.printing.proofs.perform.card_on.Goals as goal
-
-pub returns-in_err-write_acts : goal.returns-in_err-write_acts
-returns-in_err-write_acts g c =
-    let e = err_from_is_err_and c.from_residual-in_err-write_acts.result c.from_residual-in_err-write_acts.ensures.1 in unmade c.from_residual-in_err-write_acts.result e.0 _ e.1
-
-pub returns-in_err-write_end : goal.returns-in_err-write_end
-returns-in_err-write_end g c =
-    let e = err_from_is_err_and c.from_residual-in_err-write_end.result c.from_residual-in_err-write_end.ensures.1 in unmade c.from_residual-in_err-write_end.result e.0 _ e.1
 
 pub returns : goal.returns
 returns g c =

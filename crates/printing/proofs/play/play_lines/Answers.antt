@@ -1,17 +1,7 @@
 use Rattle.std.proofs.Common.{vec_items, ◌∙◌}
-use Rattle.std.proofs.lemmas.Result.{err_from_is_err_and}
 use Rattle.phrases.specs.Events.{acts}
-use Rattle.printing.proofs.Exits.{unmade}
 use Rattle.printing.proofs.Following.{line_played, all_played, follow_on}
 use Rattle.printing.proofs.play.play_lines.Goals as goal
-
-pub returns-in_err-note : goal.returns-in_err-note
-returns-in_err-note g c =
-    let e = err_from_is_err_and c.from_residual.result c.from_residual.ensures.1 in record {
-      same = (c.play_line-event.ensures.same.0 ∙ c.loop-line.invariant.0, c.play_line-event.ensures.same.1 ∙ c.loop-line.invariant.1);
-      calls = unmade c.from_residual.result e.0 _ e.1;
-      law = unmade c.from_residual.result e.0 _ e.1;
-    }
 
 pub loop-line-preserved : goal.loop-line-preserved
 loop-line-preserved g c =
@@ -27,9 +17,6 @@ loop-line-preserved g c =
           c.loop-line.invariant.3 c.play_line-event.ensures.law,
     )
 
-pub returns : goal.returns
-returns g c = record {
-  same = (c.loop-line.invariant.0, c.loop-line.invariant.1);
-  calls = all_played c.args.lines.now c.loop-line.line-index (vec_items c.loop-line.list) c.loop-line-test.false c.loop-line.invariant.2;
-  law = c.loop-line.invariant.3;
-}
+pub returns-clause-calls : goal.returns-clause-calls
+returns-clause-calls g c =
+    all_played c.args.lines.now c.loop-line.line-index (vec_items c.loop-line.list) c.loop-line-test.false c.loop-line.invariant.2

@@ -1,15 +1,6 @@
 use Rattle.std.proofs.Common.{None, Ok, Err, vec_items, sym, refl, ap, ◌∙◌}
-use Rattle.printing.proofs.Reading.{line_more, lines_end}
+use Rattle.printing.proofs.Reading.{lines_end}
 use Rattle.printing.proofs.scores.read_lines.Goals as goal
-
-pub loop-line-preserved : goal.loop-line-preserved
-loop-line-preserved g c = (
-  c.next_line.ensures.same ∙ c.loop-line.invariant.0,
-  line_more g.T.CardKind.reading c.args.score.lines.text.now c.loop-line.score.lines.text.now c.args.score.lines.at c.loop-line.score.lines.at
-      c.next_line.new.self.lines.at (vec_items c.loop-line.lines) (vec_items c.push.new.self) c.in-Ok-Some.line c.next_line.result c.loop-line.invariant.0
-      c.next_line.ensures.result (c.in-Ok-Some.is ∙ ap Ok c.in-Ok-Some.field-0-is) c.next_line.ensures.position
-      c.in_ok-push-in-Ok-Some.ensures.items c.loop-line.invariant.1,
-)
 
 pub returns-in-Ok-None : goal.returns-in-Ok-None
 returns-in-Ok-None g c =
