@@ -7,7 +7,8 @@ use kinds::Kind;
 use links::{Counts, Link};
 use std::alloc::{AllocError, Global};
 
-// Whether every circuit of a net has a gain of at most one.
+// Whether every circuit of a net has a gain of at most one. A question and no error passed on:
+// the check's own fault tells of transitions, the text's of none.
 pub(crate) fn passes<T: Kind>(
     heap: Global,
     counts: Counts,

@@ -18,7 +18,7 @@ use plants::{Horizon, Plant};
 use std::alloc::{AllocError, Global};
 use texts::Fault;
 
-// The sides of a phrase's net, and its beats.
+// The sides of a phrase's net, and its beats: where its blocks lie a phrase keeps to itself.
 #[derive(Clone, Copy)]
 struct Sides {
     inputs: usize,

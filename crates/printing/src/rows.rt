@@ -31,7 +31,7 @@ pub(crate) fn write_acts<T: CardKind>(acts: &[Act<T>], out: &mut String) -> Resu
 }
 
 // Appends a line for each of the cells, by wire, then beat. Not one loop with the report's, as
-// said there.
+// said there, and not by `block_line`, which would look up each cell again.
 pub(crate) fn write_block<T: CardKind>(
     block: Block,
     k: Horizon,

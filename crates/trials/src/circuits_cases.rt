@@ -150,7 +150,8 @@ fn which_is_named(rt: HostRuntime) -> Result<(), Fail> {
     refuses(&rt, heap, &branches, 4, 0, &[0, 2, 1], "two with one start")
 }
 
-// A ring of 64 tokenless places, all of 0 ticks but the one out of transition 17.
+// A ring of 64 tokenless places, all of 0 ticks but the one out of transition 17. By number, as
+// each place is made of it.
 fn ring(heap: Global, odd: Date) -> Result<Vec<Link<Date>>, AllocError> {
     let zero = date(0);
     let mut links = Vec::new(heap);
