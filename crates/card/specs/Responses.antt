@@ -1,10 +1,10 @@
 -- The first responses of a net: the strikes of each output in four beats, all inputs being triggered in the first beat alone.
-use Rattle.std.specs.Prelude.{◌≡◌, ℕ, ◌*◌, ◌/◌, ◌%◌, ◌<◌, min, max, cond, List, ◌==◌, slice_index_or}
+use Rattle.std.specs.Prelude.{◌≡◌, ℕ, ◌*◌, ◌/◌, ◌%◌, ◌<◌, cond, List, ◌==◌, slice_index_or}
 use Rattle.kinds.specs.Kind.{Ops}
 use Rattle.links.specs.declared.Link.{Link}
 use Rattle.links.specs.declared.Counts.{Counts}
 use Rattle.plants.specs.Meaning.{Meaning, forward_cell}
-use Rattle.routes.specs.Routes.{net_meaning}
+use Rattle.loading.specs.Loads.{net_of}
 use Rattle.card.specs.Cells.{cell_rows}
 
 -- one in the first beat, bottom in the others
@@ -21,10 +21,6 @@ response_cell o p K c = forward_cell o p (at_once o) (c / K) (c % K)
 
 abbrev pub told_responses : {T : Type 0} → Ops T → (T → List ℕ) → Meaning T → ℕ → List ℕ
 told_responses o text p K = cell_rows text K (response_cell o p K) (p.outputs * K)
-
--- a net of these counts and links
-abbrev pub net_of : {T : Type 0} → Ops T → Counts → List (Link T) → Meaning T
-net_of o n links = net_meaning o (max 1 (min n.transitions 64)) (max 1 (min n.inputs 16)) (max 1 (min n.outputs 16)) links
 
 abbrev pub response_rows : {T : Type 0} → Ops T → (T → List ℕ) → Counts → List (Link T) → List ℕ
 response_rows o text n links = told_responses o text (net_of o n links) 4

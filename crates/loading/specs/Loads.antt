@@ -13,7 +13,9 @@ use Rattle.links.specs.declared.Link.{Link}
 use Rattle.links.specs.declared.Counts.{Counts}
 use Rattle.numerals.specs.declared.cards.Misread.{Misread}
 use Rattle.numerals.specs.Texts.{date_of, level_of, channels_of}
+use Rattle.plants.specs.Meaning.{Meaning}
 use Rattle.walks.specs.Circuits.{Passes}
+use Rattle.routes.specs.Routes.{net_meaning}
 use Rattle.texts.specs.declared.faults.Fault.{Fault}
 use Rattle.texts.specs.declared.faults.TextName.TheVariants.{Net}
 use Rattle.texts.specs.declared.positions.Position.{Position}
@@ -42,6 +44,10 @@ circuit_fault = record { refusal = Circuit; text = Net; line = 0; field = 0 }
 -- every circuit of a net of so many transitions and these links has a gain of at most one
 abbrev pub Settles : {T : Type 0} → Ops T → Counts → List (Link T) → Type 0
 Settles o n links = Passes o (max 1 (min n.transitions 64)) links
+
+-- a net of these counts and links
+abbrev pub net_of : {T : Type 0} → Ops T → Counts → List (Link T) → Meaning T
+net_of o n links = net_meaning o (max 1 (min n.transitions 64)) (max 1 (min n.inputs 16)) (max 1 (min n.outputs 16)) links
 
 -- the net that links make, if it settles, else the circuit
 abbrev pub Checked : {T : Type 0} → Ops T → Counts → List (Link T) → Result (CheckedNet T) Fault → Type 0

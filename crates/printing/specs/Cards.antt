@@ -1,15 +1,12 @@
 -- The printed card of a net's and a score's text.
-use Rattle.std.specs.Prelude.{◌≡◌, ℕ, min, max, List, drop, Ok, Err, vec_items, Result}
+use Rattle.std.specs.Prelude.{◌≡◌, ℕ, List, drop, Ok, Err, vec_items, Result}
 use Rattle.kinds.specs.Kind.{Ops}
 use Rattle.kinds.specs.Dates.{date_ops}
 use Rattle.kinds.specs.Levels.{level_ops}
 use Rattle.kinds.specs.Sets.{set_ops}
-use Rattle.links.specs.declared.Link.{Link}
-use Rattle.links.specs.declared.Counts.{Counts}
 use Rattle.numerals.specs.declared.cards.Misread.{Misread}
 use Rattle.numerals.specs.Texts.{date_of, date_text, level_of, level_text, channels_of, channels_text}
 use Rattle.plants.specs.Meaning.{Meaning}
-use Rattle.routes.specs.Routes.{net_meaning}
 use Rattle.texts.specs.declared.faults.Fault.{Fault}
 use Rattle.texts.specs.declared.positions.Position.{Position}
 use Rattle.texts.specs.declared.scores.ScoreLine.{ScoreLine}
@@ -17,14 +14,10 @@ use Rattle.texts.specs.Lines.{past}
 use Rattle.texts.specs.Scores.{beats_from}
 use Rattle.loading.specs.declared.checked_nets.AnyNet.{AnyNet}
 use Rattle.loading.specs.declared.checked_nets.AnyNet.TheVariants.{Dates, Levels, Sets}
-use Rattle.loading.specs.Loads.{Loaded}
+use Rattle.loading.specs.Loads.{Loaded, net_of}
 use Rattle.printing.specs.Reads.{Reads}
 use Rattle.listing.specs.FaultRows.{fault_row}
 use Rattle.printing.specs.Performs.{Performed}
-
--- a net of these counts and links
-abbrev pub net_of : {T : Type 0} → Ops T → Counts → List (Link T) → Meaning T
-net_of o n links = net_meaning o (max 1 (min n.transitions 64)) (max 1 (min n.inputs 16)) (max 1 (min n.outputs 16)) links
 
 -- a score from a position on, over K beats: its lines, and their card
 abbrev pub Played : {T : Type 0} → Ops T → (T → List ℕ) → (List ℕ → Result T Misread) → Meaning T → ℕ → List ℕ → Position → List ℕ → Type 0

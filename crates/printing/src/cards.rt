@@ -1,5 +1,6 @@
 ghost use Rattle.std.specs.Prelude.{◌≡◌, ◌≤◌, IfOk};
-ghost use Rattle.printing.specs.Cards.{net_of, Played, Card, CardOf, Printed};
+ghost use Rattle.loading.specs.Loads.{net_of};
+ghost use Rattle.printing.specs.Cards.{Played, Card, CardOf, Printed};
 
 use crate::perform::card_on;
 use crate::scores::read_lines;
