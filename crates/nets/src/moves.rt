@@ -17,25 +17,26 @@ impl<T: Kind> Floor<'_, T> {
         ensures within { IfSome result (λ p. (p.0 < length self.now.sheet.now) × (p.1 < length self.now.sheet.now)) }
     {
         let stage = &self.stage;
-        let tail = stage.tail(link);
-        let head = stage.head(link);
-        let tokens = usize::from(link.tokens);
-        let row = stage.working + stage.turn * stage.n;
+        // Each arm works out its own cells: most links take no part in most legs.
         match leg {
-            Leg::Into if stage.leads_in(link) => {
-                Some((stage.given + (tail * stage.beats + stage.beat), row + head))
-            }
-            Leg::Wait if link.is_delayed(stage.n) && tokens <= stage.turn => Some((
-                stage.working + ((stage.turn - tokens) * stage.n + tail),
-                row + head,
+            Leg::Into if stage.leads_in(link) => Some((
+                stage.given + (stage.tail(link) * stage.beats + stage.beat),
+                stage.working + (stage.turn * stage.n + stage.head(link)),
             )),
+            Leg::Wait if link.is_delayed(stage.n) && usize::from(link.tokens) <= stage.turn => {
+                let row = stage.turn - usize::from(link.tokens);
+                Some((
+                    stage.working + (row * stage.n + stage.tail(link)),
+                    stage.working + (stage.turn * stage.n + stage.head(link)),
+                ))
+            }
             Leg::Glide if link.is_tokenless(stage.n) => Some((
-                stage.working + (stage.beats * stage.n + tail),
-                row + head,
+                stage.working + (stage.beats * stage.n + stage.tail(link)),
+                stage.working + (stage.turn * stage.n + stage.head(link)),
             )),
             Leg::Out if stage.leads_out(link) => Some((
-                row + tail,
-                stage.asked + (head * stage.beats + stage.beat),
+                stage.working + (stage.turn * stage.n + stage.tail(link)),
+                stage.asked + (stage.head(link) * stage.beats + stage.beat),
             )),
             _ => None,
         }

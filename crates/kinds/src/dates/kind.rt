@@ -46,19 +46,34 @@ impl Kind for Date {
         Date::Open
     }
 
+    // A match, not the derived `max` and `min`, which compare by an `Option` of an order: join and
+    // product are most of what a check does, meet and residual of what a due does.
     fn join(self, other: Date) -> Date {
-        self.max(other)
+        match (self, other) {
+            (Date::Never, later) | (later, Date::Never) => later,
+            (Date::At(s), Date::At(t)) => if s.value <= t.value { other } else { self },
+            _ => Date::Open,
+        }
     }
 
     fn meet(self, other: Date) -> Date {
-        self.min(other)
+        match (self, other) {
+            (Date::Open, sooner) | (sooner, Date::Open) => sooner,
+            (Date::At(s), Date::At(t)) => if s.value <= t.value { self } else { other },
+            _ => Date::Never,
+        }
     }
 
     fn product(self, other: Date) -> Date {
         match (self, other) {
             (Date::Never, _) | (_, Date::Never) => Date::Never,
-            (Date::At(s), Date::At(t)) if s.value + t.value <= 1_000_000 => {
-                Date::At(tick_of(s.value + t.value))
+            (Date::At(s), Date::At(t)) => {
+                let sum = s.value + t.value;
+                if sum <= 1_000_000 {
+                    Date::At(tick_of(sum))
+                } else {
+                    Date::Open
+                }
             }
             _ => Date::Open,
         }
@@ -67,8 +82,12 @@ impl Kind for Date {
     fn residual(self, other: Date) -> Date {
         match (self, other) {
             (Date::Never, _) | (_, Date::Open) => Date::Open,
-            (Date::At(s), Date::At(t)) if s.value <= t.value => {
-                Date::At(tick_of(t.value - s.value))
+            (Date::At(s), Date::At(t)) => {
+                if t.value < s.value {
+                    Date::Never
+                } else {
+                    Date::At(tick_of(t.value - s.value))
+                }
             }
             _ => Date::Never,
         }
