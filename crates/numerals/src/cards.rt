@@ -3,7 +3,7 @@ ghost use Rattle.numerals.specs.declared.cards.Misread.{Misread};
 ghost use Rattle.numerals.specs.Decimals.{number_of};
 ghost use Rattle.numerals.specs.Texts.{ReadsBack, Shows, Ranged, refused, date_of, date_text, level_of, level_text, channels_of, channels_text};
 ghost use Rattle.numerals.specs.Backs.{date_back, level_back, channels_back};
-ghost use Rattle.numerals.specs.Shown.{NumbersShown, BitsShown, numbers_shown, bits_shown, date_shows, level_shows, channels_shows};
+ghost use Rattle.numerals.specs.Shown.{NumbersShown, ByTenths, BitsShown, numbers_shown, by_tenths, bits_shown, date_shows, level_shows, channels_shows};
 
 use crate::decimal::read_number;
 use crate::hexadecimal::read_bits;
@@ -52,10 +52,11 @@ pub fn reads_back<T: CardKind>()
 {}
 
 // What `{}` writes, for every kind with a text, for numbers and for sixteen bits.
-#[tactic(auto, using(crate::specs::Shown::numbers_shown))]
+#[tactic(auto, using(crate::specs::Shown::numbers_shown, crate::specs::Shown::by_tenths))]
 pub fn shows_text<T: CardKind>()
     ensures value { Shows T.Display.output T.CardKind.text }
     ensures number { NumbersShown }
+    ensures tenths { ByTenths }
     ensures bits { BitsShown }
 {}
 
