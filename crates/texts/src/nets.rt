@@ -36,10 +36,10 @@ impl TryFrom<u8> for ValueKind {
     ghost try_from_gives = { λ b r. r ≡ ok_or (kind_by b) Spelling };
 
     fn try_from(letter: u8) -> Result<ValueKind, Refusal> {
-        match letter {
-            b'D' => Ok(ValueKind::Dates),
-            b'L' => Ok(ValueKind::Levels),
-            b'S' => Ok(ValueKind::Sets),
+        match char::from(letter) {
+            'D' => Ok(ValueKind::Dates),
+            'L' => Ok(ValueKind::Levels),
+            'S' => Ok(ValueKind::Sets),
             _ => Err(Refusal::Spelling),
         }
     }
@@ -83,10 +83,10 @@ impl Letter for Sort {
     ghost wanted = { arity };
 
     fn by_letter(letter: u8) -> Option<Sort> {
-        match letter {
-            b'P' => Some(Sort::Place),
-            b'I' => Some(Sort::Input),
-            b'O' => Some(Sort::Output),
+        match char::from(letter) {
+            'P' => Some(Sort::Place),
+            'I' => Some(Sort::Input),
+            'O' => Some(Sort::Output),
             _ => None,
         }
     }

@@ -31,10 +31,10 @@ impl Letter for Verb {
     ghost wanted = { verb_arity };
 
     fn by_letter(letter: u8) -> Option<Verb> {
-        match letter {
-            b'D' => Some(Verb::Due),
-            b'F' => Some(Verb::Fire),
-            b'X' => Some(Verb::Miss),
+        match char::from(letter) {
+            'D' => Some(Verb::Due),
+            'F' => Some(Verb::Fire),
+            'X' => Some(Verb::Miss),
             _ => None,
         }
     }
