@@ -1,4 +1,4 @@
-use Rattle.std.specs.Prelude.{◌≡◌, ℕ, suc, ◌+◌, ◌/◌, ◌%◌, ◌^◌, ◌<◌, ◌≤◌, true, false, List, [], ◌∷◌, ◌++◌, length, Some, None, decimal, ◌==◌, ◌≢◌, nat_eq, nat_le, nat_lt, slice_index}
+use Rattle.std.specs.Prelude.{◌≡◌, ℕ, suc, ◌+◌, ◌-◌, ◌*◌, ◌/◌, ◌%◌, ◌^◌, ◌<◌, ◌≤◌, true, false, ◌&&◌, List, [], ◌∷◌, ◌++◌, length, drop, Some, None, decimal, ◌==◌, ◌≢◌, nat_eq, nat_le, nat_lt, slice_index}
 use Rattle.std.proofs.Common.{sym, ap, ◌∙◌, arith, rules}
 use Rattle.std.proofs.Math.Nat.{pow-le-pow_right}
 use Rattle.std.specs.Str.{all_ascii_digits}
@@ -6,6 +6,8 @@ use Rattle.std.proofs.lemmas.Str.Parse.{IsNumeralModel, numerals_by_fold, tells_
 use Rattle.std.proofs.lemmas.Fmt.{AppendsLastDigit, decimal_from_appends, length-decimal-le_succ, length-decimal-le, decimal_nonempty, digits_decimal, digits_value-decimal}
 use Rattle.std.proofs.lemmas.Bool.Decides.{nat_tests}
 use Rattle.std.proofs.lemmas.Bool.{lt-ltb, le-leb, ne_eqb}
+use Rattle.std.proofs.lemmas.List.{at_drop_more}
+use Rattle.std.specs.Char.{is_ascii_digit}
 use Rattle.numerals.specs.Decimals.{value_after, number_of, text_by, text_of}
 
 -- seven digits leave space for one digit more
@@ -54,6 +56,13 @@ read_back n h =
     let short : nat_le (length (decimal n)) 7 ≡ true = le-leb (length (decimal n)) 7 (length-decimal-le 7 n (omega arith) (omega arith) big) in
     let v : value_after 0 (decimal n) ≡ n = digits_value-decimal own n big in
     ap number_of (text_is n big) ∙ rw (some, short, all, v)
+
+-- a field's digits and value, from one place to the next
+pub digits_more : (bs : List ℕ) (i : ℕ) → i < length bs → all_ascii_digits (drop i bs) ≡ (is_ascii_digit (slice_index bs i) && all_ascii_digits (drop (i + 1) bs))
+digits_more bs i h = at_drop_more all_ascii_digits bs i 0 h
+
+pub value_more : (v : ℕ) (bs : List ℕ) (i : ℕ) → i < length bs → value_after v (drop i bs) ≡ value_after (v * 10 + (slice_index bs i - 48)) (drop (i + 1) bs)
+value_more v bs i h = at_drop_more (value_after v) bs i 0 h
 
 -- what a field spells, by its length and digits
 pub no_numeral : (bs : List ℕ) → all_ascii_digits bs ≡ false → None ≡ number_of bs
